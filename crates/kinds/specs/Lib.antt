@@ -1,0 +1,4 @@
+pub mod Checked
+pub mod Codes
+pub mod Kinds
+pub mod Records

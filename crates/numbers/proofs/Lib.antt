@@ -1,0 +1,4 @@
+pub mod FixedLaws
+pub mod HoursLaws
+pub mod PapersLaws
+pub mod StaffLaws

@@ -1,0 +1,4 @@
+pub mod Fixed
+pub mod Hours
+pub mod Papers
+pub mod Staff
