@@ -1,0 +1,9 @@
+pub mod Orders
+pub mod Map
+pub mod Tests
+pub mod Capacity
+pub mod Cells
+pub mod Places
+pub mod Walks
+pub mod Views
+pub mod Theorems
