@@ -18,20 +18,26 @@ pub struct Book {
 
 impl Book {
     pub fn new(heap: Global) -> Book {
-        Book { records: BTreeMap::new(heap) }
+        Book {
+            records: BTreeMap::new(heap),
+        }
     }
 
     pub fn run(&mut self, command: Line) -> Result<Reply, AllocError> {
         match command {
             Line::Put(key, bits) => self.put(key, Papers::new(bits)),
-            Line::Drop(key) => Ok(match self.records.remove(&key) {
-                Some(old) => Reply::Dropped(old.bits()),
-                None => Reply::Absent,
-            }),
-            Line::Get(key) => Ok(match self.records.get(&key) {
-                Some(held) => Reply::Found(held.bits()),
-                None => Reply::Absent,
-            }),
+            Line::Drop(key) => Ok(
+                match self.records.remove(&key) {
+                    Some(old) => Reply::Dropped(old.bits()),
+                    None => Reply::Absent,
+                },
+            ),
+            Line::Get(key) => Ok(
+                match self.records.get(&key) {
+                    Some(held) => Reply::Found(held.bits()),
+                    None => Reply::Absent,
+                },
+            ),
         }
     }
 

@@ -95,17 +95,18 @@ module _ {K Row V : Type 0} (key : KeyKind K Row) (value : ValueKind V) where
         let P : Record K V → ℕ → Type 0 = λ x m. (bs ≡ record-code key value x ++ drop m bs) × (m ≡ length (record-code key value x)) in
         let kc = key .code (p .0) in
         let vc = value .code (q .0) in
-        let h : P (of (p .0) (q .0)) (p .1 + q .1) =
-            (a .0 ∙ ap (λ x. kc ++ x) (b .0 ∙ ap (λ x. vc ++ x) (drop-drop (q .1) (p .1) bs)) ∙ sym (append-assoc kc vc (drop (p .1 + q .1) bs)),
-             omega (arith, a .1, b .1, length-append kc vc)) in
+        let h : P (of (p .0) (q .0)) (p .1 + q .1) = (
+          a .0 ∙ ap (λ x. kc ++ x) (b .0 ∙ ap (λ x. vc ++ x) (drop-drop (q .1) (p .1) bs)) ∙ sym (append-assoc kc vc (drop (p .1 + q .1) bs)),
+          omega (arith, a .1, b .1, length-append kc vc),
+        ) in
         subst (λ m. P r m) (s .1 .1 .3) (subst (λ x. P x (p .1 + q .1)) (s .1 .1 .2) h)
 
     pub record-laws : CodeLaws 35 (record-code key value) (record-front key value)
     record-laws = record {
-        some = λ r. omega (arith, length-append (key .code (r .key)) (value .code (r .value)), kl .codes .some (r .key));
-        short = λ r. omega (arith, length-append (key .code (r .key)) (value .code (r .value)), kl .codes .short (r .key), vl .codes .short (r .value));
-        bytes = λ r. getD-both (key .code (r .key)) (value .code (r .value)) (kl .codes .bytes (r .key)) (vl .codes .bytes (r .value));
-        stands = record-stands;
-        only = record-only;
-        apart = apart-by-front (record-code key value) (record-front key value) record-stands
-      }
+      some = λ r. omega (arith, length-append (key .code (r .key)) (value .code (r .value)), kl .codes .some (r .key));
+      short = λ r. omega (arith, length-append (key .code (r .key)) (value .code (r .value)), kl .codes .short (r .key), vl .codes .short (r .value));
+      bytes = λ r. getD-both (key .code (r .key)) (value .code (r .value)) (kl .codes .bytes (r .key)) (vl .codes .bytes (r .value));
+      stands = record-stands;
+      only = record-only;
+      apart = apart-by-front (record-code key value) (record-front key value) record-stands;
+    }

@@ -35,5 +35,5 @@ module _ (out : List ℕ) (at : ℕ) (bs : List ℕ) (fits : at + length bs ≤ 
   all-written i e =
       let f : has-room out at bs ≡ true = le-leb _ _ fits in
       let w : partly out at bs i ≡ written out at bs =
-          ap (λ k. partly out at bs k) e ∙ ap (λ x. take at out ++ (x ++ drop (at + length bs) out)) (take-all (length bs) bs (omega arith)) in
+      ap (λ k. partly out at bs k) e ∙ ap (λ x. take at out ++ (x ++ drop (at + length bs) out)) (take-all (length bs) bs (omega arith)) in
       (ap (λ k. Ok (at + k)) e ∙ sym (cond-true (has-room out at bs) _ _ f), w ∙ sym (cond-true (has-room out at bs) _ _ f))

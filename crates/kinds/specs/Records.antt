@@ -16,7 +16,7 @@ use Rattle.kinds.specs.declared.record.Record.{Record}
 -- what a reader of codes answers, by what stands at the front
 abbrev pub read-answer : {A : Type 0} → Option (A × ℕ) → Result (A × ℕ) NoCode
 read-answer (Some p) = Ok p
-read-answer None = Err (record { })
+read-answer None = Err (record {})
 
 abbrev pub record-code : {K Row V : Type 0} → KeyKind K Row → ValueKind V → Record K V → List ℕ
 record-code k v r = k .code (r .key) ++ v .code (r .value)
@@ -44,7 +44,7 @@ has-room out at bs = leb (at + length bs) (length out)
 
 -- a writer answers the place behind what it wrote, or that there is no room
 abbrev pub write-answer : List ℕ → ℕ → List ℕ → Result ℕ NoRoom
-write-answer out at bs = cond (has-room out at bs) (Ok (at + length bs)) (Err (record { }))
+write-answer out at bs = cond (has-room out at bs) (Ok (at + length bs)) (Err (record {}))
 
 -- and the bytes then hold what was written, or what they held
 abbrev pub after-write : List ℕ → ℕ → List ℕ → List ℕ

@@ -28,7 +28,11 @@ impl<K: Key, V: Value> Record<K, V> {
         ensures { λ r. ⌜ r ≡ getD (record-code (K·Key .kind) (V·Value .kind) (now (self .entry))) i 0 ⌝ }
     {
         let n = self.key.code_len();
-        if i < n { self.key.code_at(i) } else { self.value.code_at(i - n) }
+        if i < n {
+            self.key.code_at(i)
+        } else {
+            self.value.code_at(i - n)
+        }
     }
 
     // Writes the code into `out` from `at` on, and gives the place behind it. Where it does not fit, nothing is written.

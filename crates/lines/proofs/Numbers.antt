@@ -41,66 +41,67 @@ module _ (ds : List ℕ) where
       record {
         value = sym (ap (value-from v) d) ∙ r .value;
         digits = sym (ap (λ t. t && all-pass is-digit (drop (i + 1) ds)) e) ∙ sym (ap (all-pass is-digit) d) ∙ r .digits;
-        small = omega (arith, r .small, digit-least (getD ds i 0) e)
+        small = omega (arith, r .small, digit-least (getD ds i 0) e);
       }
 
   module _ (limit : ℕ) where
-    bad : is-number limit ds ≡ false → Err (record { }) ≡ or-bad (number-in limit ds)
+    bad : is-number limit ds ≡ false → Err (record {}) ≡ or-bad (number-in limit ds)
     bad e = ap or-bad (sym (cond-false (is-number limit ds) (Some (value-from 0 ds)) None e))
 
-    pub no-length : (length ds ≡ 0) ⊎ (10 < length ds) → Err (record { }) ≡ or-bad (number-in limit ds)
+    pub no-length : (length ds ≡ 0) ⊎ (10 < length ds) → Err (record {}) ≡ or-bad (number-in limit ds)
     no-length (inl h) = bad (and-left _ _ (lt-leb 1 (length ds) (omega arith)))
     no-length (inr h) = bad (and-right _ _ (and-left _ _ (lt-leb (length ds) 10 (omega arith))))
 
-    pub no-digits : (i v : ℕ) → Reading ds i v → i < length ds → is-digit (getD ds i 0) ≡ false → Err (record { }) ≡ or-bad (number-in limit ds)
+    pub no-digits : (i v : ℕ) → Reading ds i v → i < length ds → is-digit (getD ds i 0) ≡ false → Err (record {}) ≡ or-bad (number-in limit ds)
     no-digits i v r h b =
         let f : all-pass is-digit ds ≡ false =
-            sym (r .digits) ∙ ap (all-pass is-digit) (drop-more ds i 0 h) ∙ and-left (is-digit (getD ds i 0)) _ b in
+        sym (r .digits) ∙ ap (all-pass is-digit) (drop-more ds i 0 h) ∙ and-left (is-digit (getD ds i 0)) _ b in
         bad (and-right (leb 1 (length ds)) _ (and-right (leb (length ds) 10) _ (and-left (all-pass is-digit ds) (ltb (value-from 0 ds) limit) f)))
 
     module _ (i v : ℕ) (r : Reading ds i v) (end : length ds ≤ i) where
       all-read : v ≡ value-from 0 ds
       all-read = ap (value-from v) (sym (drop-all i ds end)) ∙ r .value
 
-      pub too-large : limit ≤ v → Err (record { }) ≡ or-bad (number-in limit ds)
+      pub too-large : limit ≤ v → Err (record {}) ≡ or-bad (number-in limit ds)
       too-large h = bad (and-right (leb 1 (length ds)) _ (and-right (leb (length ds) 10) _ (and-right (all-pass is-digit ds) _ (le-ltb (value-from 0 ds) limit (omega (arith, all-read))))))
 
       pub number-is : 1 ≤ length ds → length ds ≤ 10 → v < limit → Ok v ≡ or-bad (number-in limit ds)
       number-is l u h =
           let all : all-pass is-digit ds ≡ true = sym (r .digits) ∙ ap (all-pass is-digit) (drop-all i ds end) in
           let t : is-number limit ds ≡ true =
-              and-from _ _ (le-leb 1 (length ds) l) (and-from _ _ (le-leb (length ds) 10 u) (and-from _ _ all (lt-ltb (value-from 0 ds) limit (omega (arith, all-read))))) in
+          and-from _ _ (le-leb 1 (length ds) l) (and-from _ _ (le-leb (length ds) 10 u) (and-from _ _ all (lt-ltb (value-from 0 ds) limit (omega (arith, all-read))))) in
           ap Ok all-read ∙ ap or-bad (sym (cond-true (is-number limit ds) (Some (value-from 0 ds)) None t))
 
 -- a number that is read is one that the digits write, and each such is read
 pub number-writes : (limit n : ℕ) (ds : List ℕ) → number-in limit ds ≡ Some n → Writes limit n ds
 number-writes limit n ds e = elim (cases-bool (is-number limit ds)) [ inl t ↦ yes-number t | inr f ↦ absurd (none f) ]
   where
-  yes-number : is-number limit ds ≡ true → Writes limit n ds
-  yes-number t =
-      let v : Some (value-from 0 ds) ≡ Some n = sym (cond-true (is-number limit ds) (Some (value-from 0 ds)) None t) ∙ e in
-      let w : value-from 0 ds ≡ n = cc in
-      let p = and-parts (leb 1 (length ds)) (leb (length ds) 10 && (all-pass is-digit ds && ltb (value-from 0 ds) limit)) t in
-      let q = and-parts (leb (length ds) 10) (all-pass is-digit ds && ltb (value-from 0 ds) limit) (p .1) in
-      let r = and-parts (all-pass is-digit ds) (ltb (value-from 0 ds) limit) (q .1) in
-      record {
-        some = leb-true 1 (length ds) (p .0);
-        few = leb-true (length ds) 10 (q .0);
-        digits = r .0;
-        value = w;
-        below = omega (arith, ltb-true (value-from 0 ds) limit (r .1))
-      }
-  none : is-number limit ds ≡ false → ⊥
-  none f =
-      let v : None ≡ Some n = sym (cond-false (is-number limit ds) (Some (value-from 0 ds)) None f) ∙ e in
-      let z : _≡_ {A = ℕ} 0 1 = cc in
-      omega arith
+    yes-number : is-number limit ds ≡ true → Writes limit n ds
+    yes-number t =
+        let v : Some (value-from 0 ds) ≡ Some n = sym (cond-true (is-number limit ds) (Some (value-from 0 ds)) None t) ∙ e in
+        let w : value-from 0 ds ≡ n = cc in
+        let p = and-parts (leb 1 (length ds)) (leb (length ds) 10 && (all-pass is-digit ds && ltb (value-from 0 ds) limit)) t in
+        let q = and-parts (leb (length ds) 10) (all-pass is-digit ds && ltb (value-from 0 ds) limit) (p .1) in
+        let r = and-parts (all-pass is-digit ds) (ltb (value-from 0 ds) limit) (q .1) in
+        record {
+          some = leb-true 1 (length ds) (p .0);
+          few = leb-true (length ds) 10 (q .0);
+          digits = r .0;
+          value = w;
+          below = omega (arith, ltb-true (value-from 0 ds) limit (r .1));
+        }
+
+    none : is-number limit ds ≡ false → ⊥
+    none f =
+        let v : None ≡ Some n = sym (cond-false (is-number limit ds) (Some (value-from 0 ds)) None f) ∙ e in
+        let z : _≡_ {A = ℕ} 0 1 = cc in
+        omega arith
 
 pub writes-number : (limit n : ℕ) (ds : List ℕ) → Writes limit n ds → number-in limit ds ≡ Some n
 writes-number limit n ds w =
     let b : value-from 0 ds < limit = omega (arith, w .value, w .below) in
     let t : is-number limit ds ≡ true =
-        and-from _ _ (le-leb 1 (length ds) (w .some)) (and-from _ _ (le-leb (length ds) 10 (w .few)) (and-from _ _ (w .digits) (lt-ltb (value-from 0 ds) limit b))) in
+    and-from _ _ (le-leb 1 (length ds) (w .some)) (and-from _ _ (le-leb (length ds) 10 (w .few)) (and-from _ _ (w .digits) (lt-ltb (value-from 0 ds) limit b))) in
     cond-true (is-number limit ds) _ _ t ∙ ap Some (w .value)
 
 own : Numerals (λ ds. all-pass is-digit ds ≡ true) (value-from 0)
@@ -115,7 +116,7 @@ decimal-writes limit n l h =
       few = length-decimal-le 10 n (omega arith) (omega arith) s;
       digits = digits-decimal own n s;
       value = value-decimal own n s;
-      below = h
+      below = h;
     }
 
 -- no digit is a blank

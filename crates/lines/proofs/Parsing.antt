@@ -88,31 +88,39 @@ put-spells bs (Some i) l f e =
     let b = with-both-from (key-in (take i bs)) (value-in (drop (i + 1) bs)) l e in
     let s = split-at 32 bs i f in
     subst (λ (x : Line). Spells x (43 ∷ bs)) (b .4)
-      (take i bs, drop (i + 1) bs, number-writes (2 ^ 32) (b .0) (take i bs) (b .2), number-writes (2 ^ 16) (b .1) (drop (i + 1) bs) (b .3), ap (λ x. 43 ∷ x) (s .parts))
+    (take i bs, drop (i + 1) bs, number-writes (2 ^ 32) (b .0) (take i bs) (b .2), number-writes (2 ^ 16) (b .1) (drop (i + 1) bs) (b .3), ap (λ x. 43 ∷ x) (s .parts))
 put-spells bs None l f e = absurd (let z : _≡_ {A = ℕ} 0 1 = cc in omega arith)
 
 -- what is read is what the bytes spell
 line-spells : (bs : List ℕ) (l : Line) → line-in bs ≡ Some l → Spells l bs
 line-spells [] l e = absurd (let z : _≡_ {A = ℕ} 0 1 = cc in omega arith)
-line-spells (c ∷ bs) l e = elim (cases-bool (eqb c 43)) [ inl t ↦ plus (eqb-true c 43 t) | inr f ↦ elim (cases-bool (eqb c 45)) [
-      inl t ↦ minus (eqb-true c 45 t) | inr g ↦ elim (cases-bool (eqb c 63)) [ inl t ↦ ask (eqb-true c 63 t) | inr h ↦ absurd (other f g h) ] ] ]
+line-spells (c ∷ bs) l e = elim (cases-bool (eqb c 43)) [
+  | inl t ↦ plus (eqb-true c 43 t)
+  | inr f ↦ elim (cases-bool (eqb c 45)) [
+    | inl t ↦ minus (eqb-true c 45 t)
+    | inr g ↦ elim (cases-bool (eqb c 63)) [ inl t ↦ ask (eqb-true c 63 t) | inr h ↦ absurd (other f g h) ]
+  ]
+]
   where
-  plus : c ≡ 43 → Spells l (c ∷ bs)
-  plus t = subst (λ x. Spells l (x ∷ bs)) (sym t) (put-spells bs (first-place 32 bs) l refl (sym (plus-line c bs t) ∙ e))
-  minus : c ≡ 45 → Spells l (c ∷ bs)
-  minus t =
-      let k = with-key-from Drop (key-in bs) l (sym (minus-line c bs t) ∙ e) in
-      subst (λ (x : Line). Spells x (c ∷ bs)) (k .2) (bs, number-writes (2 ^ 32) (k .0) bs (k .1), ap (λ x. x ∷ bs) t)
-  ask : c ≡ 63 → Spells l (c ∷ bs)
-  ask t =
-      let k = with-key-from Get (key-in bs) l (sym (ask-line c bs t) ∙ e) in
-      subst (λ (x : Line). Spells x (c ∷ bs)) (k .2) (bs, number-writes (2 ^ 32) (k .0) bs (k .1), ap (λ x. x ∷ bs) t)
-  other : eqb c 43 ≡ false → eqb c 45 ≡ false → eqb c 63 ≡ false → ⊥
-  other f g h =
-      let n : line-in (c ∷ bs) ≡ None = cond-false (eqb c 43) _ _ f ∙ cond-false (eqb c 45) _ _ g ∙ cond-false (eqb c 63) _ _ h in
-      let m : Some l ≡ None = sym e ∙ n in
-      let z : _≡_ {A = ℕ} 0 1 = cc in
-      omega arith
+    plus : c ≡ 43 → Spells l (c ∷ bs)
+    plus t = subst (λ x. Spells l (x ∷ bs)) (sym t) (put-spells bs (first-place 32 bs) l refl (sym (plus-line c bs t) ∙ e))
+
+    minus : c ≡ 45 → Spells l (c ∷ bs)
+    minus t =
+        let k = with-key-from Drop (key-in bs) l (sym (minus-line c bs t) ∙ e) in
+        subst (λ (x : Line). Spells x (c ∷ bs)) (k .2) (bs, number-writes (2 ^ 32) (k .0) bs (k .1), ap (λ x. x ∷ bs) t)
+
+    ask : c ≡ 63 → Spells l (c ∷ bs)
+    ask t =
+        let k = with-key-from Get (key-in bs) l (sym (ask-line c bs t) ∙ e) in
+        subst (λ (x : Line). Spells x (c ∷ bs)) (k .2) (bs, number-writes (2 ^ 32) (k .0) bs (k .1), ap (λ x. x ∷ bs) t)
+
+    other : eqb c 43 ≡ false → eqb c 45 ≡ false → eqb c 63 ≡ false → ⊥
+    other f g h =
+        let n : line-in (c ∷ bs) ≡ None = cond-false (eqb c 43) _ _ f ∙ cond-false (eqb c 45) _ _ g ∙ cond-false (eqb c 63) _ _ h in
+        let m : Some l ≡ None = sym e ∙ n in
+        let z : _≡_ {A = ℕ} 0 1 = cc in
+        omega arith
 
 -- and what they spell is read
 spells-line : (l : Line) (bs : List ℕ) → Spells l bs → line-in bs ≡ Some l
@@ -126,9 +134,9 @@ spells-line (Put k v) bs s =
     ap line-in (s .4) ∙ ap (put-at (ks ++ 32 ∷ vs)) f
     ∙ ap₂ with-both (ap key-in t ∙ writes-number (2 ^ 32) k ks (s .2)) (ap value-in d ∙ writes-number (2 ^ 16) v vs (s .3))
   where
-  drop-behind : (xs : List ℕ) (y : ℕ) (ys : List ℕ) → drop (length xs + 1) (xs ++ y ∷ ys) ≡ ys
-  drop-behind [] y ys = refl
-  drop-behind (x ∷ xs) y ys = let n : suc (length xs) + 1 ≡ suc (length xs + 1) = omega arith in ap (λ k. drop k (x ∷ (xs ++ y ∷ ys))) n ∙ drop-behind xs y ys
+    drop-behind : (xs : List ℕ) (y : ℕ) (ys : List ℕ) → drop (length xs + 1) (xs ++ y ∷ ys) ≡ ys
+    drop-behind [] y ys = refl
+    drop-behind (x ∷ xs) y ys = let n : suc (length xs) + 1 ≡ suc (length xs + 1) = omega arith in ap (λ k. drop k (x ∷ (xs ++ y ∷ ys))) n ∙ drop-behind xs y ys
 spells-line (Drop k) bs s = ap line-in (s .2) ∙ ap (with-key Drop) (writes-number (2 ^ 32) k (s .0) (s .1))
 spells-line (Get k) bs s = ap line-in (s .2) ∙ ap (with-key Get) (writes-number (2 ^ 32) k (s .0) (s .1))
 

@@ -34,7 +34,7 @@ module _ (b : ℕ) (bs : List ℕ) where
     pub place-found : i < length bs → getD bs i 0 ≡ b → Some i ≡ first-place b bs
     place-found h e =
         sym (inv ∙ ap (λ x. behind i (first-place b x)) (drop-more bs i 0 h)
-          ∙ ap (behind i) (cond-true (eqb (getD bs i 0) b) _ _ (eq-eqb (getD bs i 0) b e)) ∙ ap Some (omega arith))
+        ∙ ap (behind i) (cond-true (eqb (getD bs i 0) b) _ _ (eq-eqb (getD bs i 0) b e)) ∙ ap Some (omega arith))
 
     pub place-more : i < length bs → (getD bs i 0 ≡ b → ⊥) → first-place b bs ≡ behind (i + 1) (first-place b (drop (i + 1) bs))
     place-more h e =
@@ -57,14 +57,14 @@ one-more-from None i e = absurd (let z : _≡_ {A = ℕ} 0 1 = cc in omega arith
 
 split-further : (b x : ℕ) (xs : List ℕ) (j : ℕ) → (x ≡ b → ⊥) → Split b xs j → Split b (x ∷ xs) (suc j)
 split-further b x xs j ne s = record {
-    within = omega (arith, s .within);
-    parts = let n : suc (j + 1) ≡ suc j + 1 = omega arith in ap (λ ys. x ∷ ys) (s .parts) ∙ ap (λ k. x ∷ (take j xs ++ b ∷ drop k (x ∷ xs))) n;
-    none = further
-  }
+  within = omega (arith, s .within);
+  parts = let n : suc (j + 1) ≡ suc j + 1 = omega arith in ap (λ ys. x ∷ ys) (s .parts) ∙ ap (λ k. x ∷ (take j xs ++ b ∷ drop k (x ∷ xs))) n;
+  none = further;
+}
   where
-  further : (k : ℕ) → k < length (x ∷ take j xs) → getD (x ∷ take j xs) k 0 ≡ b → ⊥
-  further zero l e = ne e
-  further (suc k) l e = s .none k (omega arith) e
+    further : (k : ℕ) → k < length (x ∷ take j xs) → getD (x ∷ take j xs) k 0 ≡ b → ⊥
+    further zero l e = ne e
+    further (suc k) l e = s .none k (omega arith) e
 
 split-here : (b x : ℕ) (xs : List ℕ) (i : ℕ) → first-place b (x ∷ xs) ≡ Some i → eqb x b ≡ true → Split b (x ∷ xs) i
 split-here b x xs i e t =
@@ -84,14 +84,15 @@ split-at b (x ∷ xs) i e = elim (cases-bool (eqb x b)) [ inl t ↦ split-here b
 first-not : (b x : ℕ) (xs : List ℕ) → first-place b (x ∷ xs) ≡ None → (eqb x b ≡ false) × (first-place b xs ≡ None)
 first-not b x xs e = elim (cases-bool (eqb x b)) [ inl t ↦ absurd (found t) | inr f ↦ (f, rest (first-place b xs) (sym (cond-false (eqb x b) (Some 0) (one-more (first-place b xs)) f) ∙ e)) ]
   where
-  found : eqb x b ≡ true → ⊥
-  found t =
-      let z : _≡_ {A = Option ℕ} (Some 0) None = sym (cond-true (eqb x b) (Some 0) (one-more (first-place b xs)) t) ∙ e in
-      let n : _≡_ {A = ℕ} 0 1 = cc in
-      omega arith
-  rest : (o : Option ℕ) → one-more o ≡ None → o ≡ None
-  rest (Some i) h = absurd (let z : _≡_ {A = ℕ} 0 1 = cc in omega arith)
-  rest None h = refl
+    found : eqb x b ≡ true → ⊥
+    found t =
+        let z : _≡_ {A = Option ℕ} (Some 0) None = sym (cond-true (eqb x b) (Some 0) (one-more (first-place b xs)) t) ∙ e in
+        let n : _≡_ {A = ℕ} 0 1 = cc in
+        omega arith
+
+    rest : (o : Option ℕ) → one-more o ≡ None → o ≡ None
+    rest (Some i) h = absurd (let z : _≡_ {A = ℕ} 0 1 = cc in omega arith)
+    rest None h = refl
 
 pub none-at : (b : ℕ) (bs : List ℕ) → first-place b bs ≡ None → (j : ℕ) → j < length bs → getD bs j 0 ≡ b → ⊥
 none-at b [] e j l h = omega arith

@@ -77,4 +77,4 @@ line-in (c ∷ bs) = cond (eqb c 43) (put-in bs) (cond (eqb c 45) (with-key Drop
 -- what is no such thing is a bad line
 abbrev pub or-bad : {A : Type 0} → Option A → Result A BadLine
 or-bad (Some x) = Ok x
-or-bad None = Err (record { })
+or-bad None = Err (record {})

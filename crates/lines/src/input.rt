@@ -65,7 +65,11 @@ fn read_number(digits: &[u8], limit: u64) -> Result<u64, BadLine>
         }
         value = 10 * value + u64::from(*d - b'0');
     }
-    if value < limit { Ok(value) } else { Err(BadLine) }
+    if value < limit {
+        Ok(value)
+    } else {
+        Err(BadLine)
+    }
 }
 
 fn read_key(digits: &[u8]) -> Result<u32, BadLine>

@@ -98,19 +98,19 @@ module _ (w : ℕ) {A : Type 0} (value : A → ℕ) (make : (n : ℕ) → n < 25
       let v : value x ≡ number 256 (take w bs) = ap (λ (q : A × ℕ). value (q .0)) (sym (c .1)) ∙ numbered .made _ _ in
       let l : length (take w bs) ≡ w = length-take-le w bs (leb-true w (length bs) (p .0)) in
       let code : bytes-of w (value x) ≡ take w bs =
-          same-bytes 0 0 (bytes-of w (value x)) (take w bs) (length-bytes-of w (value x) ∙ sym l) (under-bytes-of w (value x)) (under-all (take w bs) (p .1))
-            (number-bytes-of w (value x) (numbered .fits x) ∙ v) .1 in
+      same-bytes 0 0 (bytes-of w (value x)) (take w bs) (length-bytes-of w (value x) ∙ sym l) (under-bytes-of w (value x)) (under-all (take w bs) (p .1))
+      (number-bytes-of w (value x) (numbered .fits x) ∙ v) .1 in
       (sym (take-append-drop w bs) ∙ ap₂ (λ a k. a ++ drop k bs) (sym code) m, sym m ∙ sym (length-bytes-of w (value x)))
 
   pub fixed-laws : (most : ℕ) → 1 ≤ w → w ≤ most → CodeLaws most (λ x. bytes-of w (value x)) (fixed-front w make)
   fixed-laws most some few = record {
-      some = λ x. omega (arith, length-bytes-of w (value x));
-      short = λ x. omega (arith, length-bytes-of w (value x));
-      bytes = λ x. under-at (bytes-of w (value x)) (under-bytes-of w (value x));
-      stands = stands;
-      only = only;
-      apart = apart-by-front (λ x. bytes-of w (value x)) (fixed-front w make) stands
-    }
+    some = λ x. omega (arith, length-bytes-of w (value x));
+    short = λ x. omega (arith, length-bytes-of w (value x));
+    bytes = λ x. under-at (bytes-of w (value x)) (under-bytes-of w (value x));
+    stands = stands;
+    only = only;
+    apart = apart-by-front (λ x. bytes-of w (value x)) (fixed-front w make) stands;
+  }
 
 -- with fewer than w bytes there is no code
 pub short-front : {A : Type 0} (w : ℕ) (make : (n : ℕ) → n < 256 ^ w → A) (bs : List ℕ) → length bs < w → fixed-front w make bs ≡ None

@@ -22,11 +22,11 @@ stamp h = h .week * 65536 + h .quarters
 
 pub same-hours : (x y : Hours) → x .week ≡ y .week → x .quarters ≡ y .quarters → x ≡ y
 same-hours x y e f = λ i. record {
-    week = e i;
-    quarters = f i;
-    «week_fits» = isProp→PathP (λ i. e i < 2 ^ 16) (λ i. le-prop) (x .«week_fits») (y .«week_fits») i;
-    «quarters_fits» = isProp→PathP (λ i. f i < 2 ^ 16) (λ i. le-prop) (x .«quarters_fits») (y .«quarters_fits») i
-  }
+  week = e i;
+  quarters = f i;
+  «week_fits» = isProp→PathP (λ i. e i < 2 ^ 16) (λ i. le-prop) (x .«week_fits») (y .«week_fits») i;
+  «quarters_fits» = isProp→PathP (λ i. f i < 2 ^ 16) (λ i. le-prop) (x .«quarters_fits») (y .«quarters_fits») i;
+}
 
 same-stamp : (x y : Hours) → stamp x ≡ stamp y → x ≡ y
 same-stamp x y e =
@@ -36,10 +36,10 @@ same-stamp x y e =
 
 pub hours-numbered : Numbered 4 stamp hours
 hours-numbered = record {
-    fits = λ x. omega (arith, x .«week_fits», x .«quarters_fits»);
-    made = λ n h. omega arith;
-    same = same-stamp
-  }
+  fits = λ x. omega (arith, x .«week_fits», x .«quarters_fits»);
+  made = λ n h. omega arith;
+  same = same-stamp;
+}
 
 code-is : (x : Hours) → bytes-of 4 (stamp x) ≡ hours-code x
 code-is x =
@@ -63,11 +63,11 @@ later-most x y =
 
 pub hours-laws : ValueLaws hours-kind
 hours-laws = record {
-    number = omega arith;
-    codes = hours-codes;
-    joins = record {
-      assoc = λ x y z. same-stamp _ _ (omega (arith, later-most (later x y) z, later-most x y, later-most x (later y z), later-most y z));
-      comm = λ x y. same-stamp _ _ (omega (arith, later-most x y, later-most y x));
-      idem = λ x. same-stamp _ _ (omega (arith, later-most x x))
-    }
-  }
+  number = omega arith;
+  codes = hours-codes;
+  joins = record {
+    assoc = λ x y z. same-stamp _ _ (omega (arith, later-most (later x y) z, later-most x y, later-most x (later y z), later-most y z));
+    comm = λ x y. same-stamp _ _ (omega (arith, later-most x y, later-most y x));
+    idem = λ x. same-stamp _ _ (omega (arith, later-most x x));
+  };
+}

@@ -13,9 +13,9 @@ use Rattle.numbers.proofs.FixedLaws.{Numbered, fixed-laws}
 
 pub same-papers : (p q : Papers) → p .bits ≡ q .bits → p ≡ q
 same-papers p q e = λ i. record {
-    bits = e i;
-    fits = isProp→PathP (λ i. e i < 2 ^ 16) (λ i. le-prop) (p .fits) (q .fits) i
-  }
+  bits = e i;
+  fits = isProp→PathP (λ i. e i < 2 ^ 16) (λ i. le-prop) (p .fits) (q .fits) i;
+}
 
 pub papers-numbered : Numbered 2 (λ p. p .bits) papers
 papers-numbered = record { fits = λ p. p .fits; made = λ n h. refl; same = same-papers }
@@ -30,11 +30,11 @@ or-assoc = bin-ind (λ (n : ℕ). (b c : ℕ) → bitOr (bitOr n b) c ≡ bitOr 
 
 pub papers-laws : ValueLaws papers-kind
 papers-laws = record {
-    number = omega arith;
-    codes = fixed-laws 2 (λ p. p .bits) papers papers-numbered 10 (omega arith) (omega arith);
-    joins = record {
-      assoc = λ x y z. same-papers _ _ (or-assoc (x .bits) (y .bits) (z .bits));
-      comm = λ x y. same-papers _ _ (or-comm (x .bits) (y .bits));
-      idem = λ x. same-papers _ _ (or-self (x .bits))
-    }
-  }
+  number = omega arith;
+  codes = fixed-laws 2 (λ p. p .bits) papers papers-numbered 10 (omega arith) (omega arith);
+  joins = record {
+    assoc = λ x y z. same-papers _ _ (or-assoc (x .bits) (y .bits) (z .bits));
+    comm = λ x y. same-papers _ _ (or-comm (x .bits) (y .bits));
+    idem = λ x. same-papers _ _ (or-self (x .bits));
+  };
+}

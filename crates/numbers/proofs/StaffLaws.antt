@@ -18,9 +18,9 @@ use Rattle.numbers.proofs.FixedLaws.{Numbered, fixed-laws}
 
 pub same-staff : (j k : StaffNumber) → j .number ≡ k .number → j ≡ k
 same-staff j k e = λ i. record {
-    number = e i;
-    fits = isProp→PathP (λ i. e i < 2 ^ 32) (λ i. le-prop) (j .fits) (k .fits) i
-  }
+  number = e i;
+  fits = isProp→PathP (λ i. e i < 2 ^ 32) (λ i. le-prop) (j .fits) (k .fits) i;
+}
 
 pub staff-numbered : Numbered 4 (λ k. k .number) staff
 staff-numbered = record { fits = λ k. k .fits; made = λ n h. refl; same = same-staff }
@@ -33,17 +33,17 @@ staff-of-row n k e h = checked-some (ltb n (2 ^ 32)) _ (lt-ltb n (2 ^ 32) h) ∙
 
 pub staff-laws : KeyLaws staff-kind
 staff-laws = record {
-    number = omega arith;
-    codes = fixed-laws 4 (λ k. k .number) staff staff-numbered 25 (omega arith) (omega arith);
-    orders = record {
-      same = λ k. grind (arith, tells);
-      equal = λ j k h. same-staff j k (ranked-equal (j .number) (k .number) h);
-      turned = λ j k. grind (arith, tells);
-      chain = λ i j k g h. grind (arith, tells)
-    };
-    hash = λ s k. omega arith;
-    rows = record {
-      back = λ k. staff-of-row (k .number) k refl (k .fits);
-      only = λ r k h. let p = checked-from (ltb r (2 ^ 32)) _ k h in ap (λ (x : StaffNumber). x .number) (sym (p .1))
-    }
-  }
+  number = omega arith;
+  codes = fixed-laws 4 (λ k. k .number) staff staff-numbered 25 (omega arith) (omega arith);
+  orders = record {
+    same = λ k. grind (arith, tells);
+    equal = λ j k h. same-staff j k (ranked-equal (j .number) (k .number) h);
+    turned = λ j k. grind (arith, tells);
+    chain = λ i j k g h. grind (arith, tells);
+  };
+  hash = λ s k. omega arith;
+  rows = record {
+    back = λ k. staff-of-row (k .number) k refl (k .fits);
+    only = λ r k h. let p = checked-from (ltb r (2 ^ 32)) _ k h in ap (λ (x : StaffNumber). x .number) (sym (p .1));
+  };
+}

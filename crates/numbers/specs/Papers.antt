@@ -11,8 +11,8 @@ papers n h = record { bits = n; fits = h }
 -- 16 bits, one for each paper, in 2 bytes; the join holds the papers of both
 abbrev pub papers-kind : ValueKind Papers
 papers-kind = record {
-    number = 1;
-    code = λ p. bytes-of 2 (p .bits);
-    front = fixed-front 2 papers;
-    join = λ p q. papers (bitOr (p .bits) (q .bits)) (or-lt 16 (p .bits) (q .bits) (p .fits) (q .fits))
-  }
+  number = 1;
+  code = λ p. bytes-of 2 (p .bits);
+  front = fixed-front 2 papers;
+  join = λ p q. papers (bitOr (p .bits) (q .bits)) (or-lt 16 (p .bits) (q .bits) (p .fits) (q .fits));
+}

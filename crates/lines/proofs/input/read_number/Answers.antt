@@ -15,7 +15,7 @@ loop-d-again c =
     let ds = c .args .digits .now in
     let i = c .loop-d .d-index in
     subst (λ d. Reading ds (i + 1) (10 * c .loop-d .value + d)) (sym (c .from .ensures))
-      (reading-more ds i (c .loop-d .value) (c .loop-d .inv) (c .loop-d-test .taken) (sym (c .if-not-is-digit .ensures tt)))
+    (reading-more ds i (c .loop-d .value) (c .loop-d .inv) (c .loop-d-test .taken) (sym (c .if-not-is-digit .ensures tt)))
 
 pub returns-then-value-limit : need.returns-then-value-limit
 returns-then-value-limit c =

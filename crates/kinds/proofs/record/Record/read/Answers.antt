@@ -55,9 +55,13 @@ add-result g c =
     let n = c .in-Continue-key .n in
     let key : k .front bs ≡ Some (c .in-Continue-key .key, n) = front-from-ok (k .front bs) _ (c .in-Continue-key .ensures tt .answer) in
     let value : v .front (drop n bs) ≡ Some (c .in-Continue-value .value, c .in-Continue-value .m) =
-        ap (v .front) (sym (take-rest bs n)) ∙ front-from-ok _ _ (c .in-Continue-value .ensures tt .answer) in
-    omega (arith, front-within (k .code) (k .front) 25 (g .K·Key·met .lawful .codes) bs _ _ key,
-      front-within (v .code) (v .front) 10 (g .V·Value·met .lawful .codes) (drop n bs) _ _ value, length-drop n bs)
+    ap (v .front) (sym (take-rest bs n)) ∙ front-from-ok _ _ (c .in-Continue-value .ensures tt .answer) in
+    omega (
+      arith,
+      front-within (k .code) (k .front) 25 (g .K·Key·met .lawful .codes) bs _ _ key,
+      front-within (v .code) (v .front) 10 (g .V·Value·met .lawful .codes) (drop n bs) _ _ value,
+      length-drop n bs,
+    )
 
 pub returns : need.returns
 returns g c =
@@ -68,7 +72,7 @@ returns g c =
     let laws = record-laws k v (g .K·Key·met .lawful) (g .V·Value·met .lawful) in
     let key : k .front bs ≡ Some (c .in-Continue-key .key, n) = front-from-ok (k .front bs) _ (c .in-Continue-key .ensures tt .answer) in
     let value : v .front (drop n bs) ≡ Some (c .in-Continue-value .value, c .in-Continue-value .m) =
-        ap (v .front) (sym (take-rest bs n)) ∙ front-from-ok _ _ (c .in-Continue-value .ensures tt .answer) in
+    ap (v .front) (sym (take-rest bs n)) ∙ front-from-ok _ _ (c .in-Continue-value .ensures tt .answer) in
     let f = ap (behind-key v bs) key ∙ ap (with-value (c .in-Continue-key .key, n)) value in
     let e = ap read-answer (sym f) in
     record { answer = e; exact = reads-exactly (record-code k v) (record-front k v) 35 laws bs _ e; lawful = laws }

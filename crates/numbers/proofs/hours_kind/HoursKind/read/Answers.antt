@@ -15,6 +15,6 @@ returns-in-len4-up c =
     let bs = c .args .bytes .now in
     let long : 4 ≤ length bs = search needs in
     let f = typed-front 4 stamp hours hours-numbered bs (c .new .result) long (λ i. omega (arith, c .typed .bytes i))
-        (omega (arith, c .new .ensures .week, c .new .ensures .quarters, c .from-be-bytes-week .ensures, c .from-be-bytes-quarters .ensures, four-bytes bs long)) in
+    (omega (arith, c .new .ensures .week, c .new .ensures .quarters, c .from-be-bytes-week .ensures, c .from-be-bytes-quarters .ensures, four-bytes bs long)) in
     let e = ap read-answer (sym f) in
     record { answer = e; exact = reads-exactly (hours-kind .code) (hours-kind .front) 10 (hours-laws .codes) bs _ e }

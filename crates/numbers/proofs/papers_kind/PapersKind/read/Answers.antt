@@ -15,6 +15,6 @@ returns-in-len2-up c =
     let bs = c .args .bytes .now in
     let long : 2 ≤ length bs = search needs in
     let f = typed-front 2 (λ p. p .bits) papers papers-numbered bs (c .new .result) long (λ i. omega (arith, c .typed .bytes i))
-        (c .new .ensures ∙ c .from-be-bytes .ensures ∙ sym (two-bytes bs long)) in
+    (c .new .ensures ∙ c .from-be-bytes .ensures ∙ sym (two-bytes bs long)) in
     let e = ap read-answer (sym f) in
     record { answer = e; exact = reads-exactly (papers-kind .code) (papers-kind .front) 10 (papers-laws .codes) bs _ e }

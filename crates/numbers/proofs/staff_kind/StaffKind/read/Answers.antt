@@ -15,6 +15,6 @@ returns-in-len4-up c =
     let bs = c .args .bytes .now in
     let long : 4 ≤ length bs = search needs in
     let f = typed-front 4 (λ k. k .number) staff staff-numbered bs (c .new .result) long (λ i. omega (arith, c .typed .bytes i))
-        (c .new .ensures ∙ c .from-be-bytes .ensures ∙ sym (four-bytes bs long)) in
+    (c .new .ensures ∙ c .from-be-bytes .ensures ∙ sym (four-bytes bs long)) in
     let e = ap read-answer (sym f) in
     record { answer = e; exact = reads-exactly (staff-kind .code) (staff-kind .front) 25 (staff-laws .codes) bs _ e }

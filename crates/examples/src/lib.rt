@@ -1,0 +1,3 @@
+// Worked examples, run as tests.
+#[cfg(test)]
+mod kinds_tests;
