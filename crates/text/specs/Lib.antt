@@ -1,0 +1,9 @@
+pub mod Faults
+pub mod Fnv
+pub mod Keys
+pub mod Letters
+pub mod Lexical
+pub mod Making
+pub mod Rows
+pub mod Texts
+pub mod Words
