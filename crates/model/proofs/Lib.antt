@@ -1,0 +1,14 @@
+pub mod Layouts
+pub mod Refusals
+pub mod Sheets
+pub mod Absorb
+pub mod Joins
+pub mod Simulation
+pub mod Once
+pub mod Runs
+pub mod Lists
+pub mod Ends
+pub mod Puts
+pub mod Claims
+pub mod Blocks
+pub mod Pieces

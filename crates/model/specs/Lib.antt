@@ -1,0 +1,10 @@
+pub mod Faults
+pub mod Setups
+pub mod Blocks
+pub mod Worlds
+pub mod Refusals
+pub mod Steps
+pub mod Runs
+pub mod Machines
+pub mod Sheets
+pub mod Claims
