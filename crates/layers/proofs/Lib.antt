@@ -1,0 +1,3 @@
+pub mod Offsets
+pub mod Mirrors
+pub mod Ruled
