@@ -1,0 +1,4 @@
+pub mod Finding
+pub mod Checking
+pub mod Keying
+pub mod Walking

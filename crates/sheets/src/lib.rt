@@ -1,0 +1,4 @@
+// Lent cells checked, and sheets of commands run on them.
+pub mod check;
+pub mod places;
+pub mod sheet;
