@@ -1,0 +1,12 @@
+pub mod Orders
+pub mod Chains
+pub mod Packs
+pub mod Headers
+pub mod Walks
+pub mod Bodies
+pub mod Opens
+pub mod Only
+pub mod Theorems
+pub mod Capacities
+pub mod Loops
+pub mod Rows

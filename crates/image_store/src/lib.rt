@@ -1,0 +1,3 @@
+// Reading the image that a store holds.
+pub mod load;
+pub mod wipe;
