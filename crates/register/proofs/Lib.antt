@@ -1,0 +1,9 @@
+pub mod Begun
+pub mod Copies
+pub mod Entering
+pub mod Listed
+pub mod Openings
+pub mod Retold
+pub mod Sealed
+pub mod Setups
+pub mod Writes

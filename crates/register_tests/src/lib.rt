@@ -1,0 +1,5 @@
+// The register on examples: staff numbers, papers, plain stores.
+#[cfg(test)]
+mod histories;
+#[cfg(test)]
+mod refusals;
