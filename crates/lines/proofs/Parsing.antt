@@ -15,11 +15,11 @@ use Rattle.std.specs.declared.option.Option.{Option}
 use Rattle.std.specs.declared.option.Option.the-variants.{Some, None}
 use Rattle.std.specs.declared.result.Result.{Result}
 use Rattle.std.specs.declared.result.Result.the-variants.{Ok, Err}
-use Rattle.lines.specs.Input.{first-place, number-in, key-in, value-in, with-key, with-both, put-at, put-in, line-in, or-bad}
+use Rattle.lines.specs.Input.{first-place, number-in, key-in, value-in, with-key, with-both, put-at, put-in, seal-in, line-in, or-bad}
 use Rattle.lines.specs.Laws.{Writes, Spells, Tells, written, InRange, Reads-back}
 use Rattle.lines.specs.declared.input.BadLine.{BadLine}
 use Rattle.lines.specs.declared.input.Line.{Line}
-use Rattle.lines.specs.declared.input.Line.the-variants.{Put, Drop, Get}
+use Rattle.lines.specs.declared.input.Line.the-variants.{Put, Drop, Get, Seal}
 use Rattle.lines.proofs.Numbers.{number-writes, writes-number, decimal-writes, digits-no-blank}
 use Rattle.lines.proofs.Places.{split-at, place-behind}
 
@@ -44,6 +44,11 @@ module _ (c : ℕ) (bs : List ℕ) where
   ask-line e =
       cond-false (eqb c 43) _ _ (ne-eqb c 43 (λ f. omega arith)) ∙ cond-false (eqb c 45) _ _ (ne-eqb c 45 (λ f. omega arith)) ∙ cond-true (eqb c 63) _ _ (eq-eqb c 63 e)
 
+  seal-line : c ≡ 61 → line-in (c ∷ bs) ≡ seal-in bs
+  seal-line e =
+      cond-false (eqb c 43) _ _ (ne-eqb c 43 (λ f. omega arith)) ∙ cond-false (eqb c 45) _ _ (ne-eqb c 45 (λ f. omega arith)) ∙ cond-false (eqb c 63) _ _ (ne-eqb c 63 (λ f. omega arith))
+      ∙ cond-true (eqb c 61) _ _ (eq-eqb c 61 e)
+
 -- the same of bytes of which the first is known, with the rest as the program's match gives it
 abbrev pub rest-of : List ℕ → List ℕ
 rest-of bs = take (length bs - 1) (drop 1 bs)
@@ -59,6 +64,10 @@ minus-rest (c ∷ bs) l e = minus-line c bs e ∙ ap (λ x. with-key Drop (key-i
 pub ask-rest : (bs : List ℕ) → 1 ≤ length bs → getD bs 0 0 ≡ 63 → line-in bs ≡ with-key Get (key-in (rest-of bs))
 ask-rest [] l e = absurd (omega arith)
 ask-rest (c ∷ bs) l e = ask-line c bs e ∙ ap (λ x. with-key Get (key-in x)) (sym (take-rest (c ∷ bs) 1))
+
+pub seal-rest : (bs : List ℕ) → 1 ≤ length bs → getD bs 0 0 ≡ 61 → line-in bs ≡ seal-in (rest-of bs)
+seal-rest [] l e = absurd (omega arith)
+seal-rest (c ∷ bs) l e = seal-line c bs e ∙ ap seal-in (sym (take-rest (c ∷ bs) 1))
 
 -- a key and a value on both sides of the first blank, with the parts as the program cuts them
 module _ (bs : List ℕ) (i : ℕ) (f : Some i ≡ first-place 32 bs) where
@@ -91,6 +100,13 @@ put-spells bs (Some i) l f e =
     (take i bs, drop (i + 1) bs, number-writes (2 ^ 32) (b .0) (take i bs) (b .2), number-writes (2 ^ 16) (b .1) (drop (i + 1) bs) (b .3), ap (λ x. 43 ∷ x) (s .parts))
 put-spells bs None l f e = absurd (let z : _≡_ {A = ℕ} 0 1 = cc in omega arith)
 
+seal-spells : (bs : List ℕ) (l : Line) → seal-in bs ≡ Some l → Spells l (61 ∷ bs)
+seal-spells [] l e = subst (λ (x : Line). Spells x (61 ∷ [])) seal-is refl
+  where
+    seal-is : Seal ≡ l
+    seal-is = cc
+seal-spells (b ∷ bs) l e = absurd (let z : _≡_ {A = ℕ} 0 1 = cc in omega arith)
+
 -- what is read is what the bytes spell
 line-spells : (bs : List ℕ) (l : Line) → line-in bs ≡ Some l → Spells l bs
 line-spells [] l e = absurd (let z : _≡_ {A = ℕ} 0 1 = cc in omega arith)
@@ -98,7 +114,10 @@ line-spells (c ∷ bs) l e = elim (cases-bool (eqb c 43)) [
   | inl t ↦ plus (eqb-true c 43 t)
   | inr f ↦ elim (cases-bool (eqb c 45)) [
     | inl t ↦ minus (eqb-true c 45 t)
-    | inr g ↦ elim (cases-bool (eqb c 63)) [ inl t ↦ ask (eqb-true c 63 t) | inr h ↦ absurd (other f g h) ]
+    | inr g ↦ elim (cases-bool (eqb c 63)) [
+      | inl t ↦ ask (eqb-true c 63 t)
+      | inr h ↦ elim (cases-bool (eqb c 61)) [ inl t ↦ seal (eqb-true c 61 t) | inr i ↦ absurd (other f g h i) ]
+    ]
   ]
 ]
   where
@@ -115,9 +134,12 @@ line-spells (c ∷ bs) l e = elim (cases-bool (eqb c 43)) [
         let k = with-key-from Get (key-in bs) l (sym (ask-line c bs t) ∙ e) in
         subst (λ (x : Line). Spells x (c ∷ bs)) (k .2) (bs, number-writes (2 ^ 32) (k .0) bs (k .1), ap (λ x. x ∷ bs) t)
 
-    other : eqb c 43 ≡ false → eqb c 45 ≡ false → eqb c 63 ≡ false → ⊥
-    other f g h =
-        let n : line-in (c ∷ bs) ≡ None = cond-false (eqb c 43) _ _ f ∙ cond-false (eqb c 45) _ _ g ∙ cond-false (eqb c 63) _ _ h in
+    seal : c ≡ 61 → Spells l (c ∷ bs)
+    seal t = subst (λ x. Spells l (x ∷ bs)) (sym t) (seal-spells bs l (sym (seal-line c bs t) ∙ e))
+
+    other : eqb c 43 ≡ false → eqb c 45 ≡ false → eqb c 63 ≡ false → eqb c 61 ≡ false → ⊥
+    other f g h i =
+        let n : line-in (c ∷ bs) ≡ None = cond-false (eqb c 43) _ _ f ∙ cond-false (eqb c 45) _ _ g ∙ cond-false (eqb c 63) _ _ h ∙ cond-false (eqb c 61) _ _ i in
         let m : Some l ≡ None = sym e ∙ n in
         let z : _≡_ {A = ℕ} 0 1 = cc in
         omega arith
@@ -139,6 +161,7 @@ spells-line (Put k v) bs s =
     drop-behind (x ∷ xs) y ys = let n : suc (length xs) + 1 ≡ suc (length xs + 1) = omega arith in ap (λ k. drop k (x ∷ (xs ++ y ∷ ys))) n ∙ drop-behind xs y ys
 spells-line (Drop k) bs s = ap line-in (s .2) ∙ ap (with-key Drop) (writes-number (2 ^ 32) k (s .0) (s .1))
 spells-line (Get k) bs s = ap line-in (s .2) ∙ ap (with-key Get) (writes-number (2 ^ 32) k (s .0) (s .1))
+spells-line Seal bs s = ap line-in s
 
 tells-by : (bs : List ℕ) (o : Option Line) → line-in bs ≡ o → Tells bs (or-bad o)
 tells-by bs (Some l) e = line-spells bs l e
@@ -155,3 +178,4 @@ pub reads-back : Reads-back
 reads-back (Put k v) h = spells-line (Put k v) _ (decimal k, decimal v, decimal-writes (2 ^ 32) k (omega arith) (h .0), decimal-writes (2 ^ 16) v (omega arith) (h .1), refl)
 reads-back (Drop k) h = spells-line (Drop k) _ (decimal k, decimal-writes (2 ^ 32) k (omega arith) h, refl)
 reads-back (Get k) h = spells-line (Get k) _ (decimal k, decimal-writes (2 ^ 32) k (omega arith) h, refl)
+reads-back Seal h = spells-line Seal _ refl

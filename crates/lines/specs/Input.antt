@@ -11,7 +11,7 @@ use Rattle.std.specs.declared.result.Result.the-variants.{Ok, Err}
 use Rattle.std.specs.shelf.Lawful.{all-pass}
 use Rattle.lines.specs.declared.input.BadLine.{BadLine}
 use Rattle.lines.specs.declared.input.Line.{Line}
-use Rattle.lines.specs.declared.input.Line.the-variants.{Put, Drop, Get}
+use Rattle.lines.specs.declared.input.Line.the-variants.{Put, Drop, Get, Seal}
 
 abbrev pub one-more : Option ℕ → Option ℕ
 one-more (Some i) = Some (suc i)
@@ -69,10 +69,15 @@ put-at bs None = None
 abbrev pub put-in : List ℕ → Option Line
 put-in bs = put-at bs (first-place 32 bs)
 
--- by the command character: + is 43, - is 45, ? is 63
+-- nothing may stand behind the character of a seal
+abbrev pub seal-in : List ℕ → Option Line
+seal-in [] = Some Seal
+seal-in (b ∷ bs) = None
+
+-- by the first character: + is 43, - is 45, ? is 63, = is 61
 abbrev pub line-in : List ℕ → Option Line
 line-in [] = None
-line-in (c ∷ bs) = cond (eqb c 43) (put-in bs) (cond (eqb c 45) (with-key Drop (key-in bs)) (cond (eqb c 63) (with-key Get (key-in bs)) None))
+line-in (c ∷ bs) = cond (eqb c 43) (put-in bs) (cond (eqb c 45) (with-key Drop (key-in bs)) (cond (eqb c 63) (with-key Get (key-in bs)) (cond (eqb c 61) (seal-in bs) None)))
 
 -- what is no such thing is a bad line
 abbrev pub or-bad : {A : Type 0} → Option A → Result A BadLine

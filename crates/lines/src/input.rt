@@ -1,21 +1,22 @@
 // The lines that the program reads.
 ghost use Prim.Native.Nat.{ℕ, _≤_, _<_};
-ghost use Rattle.lines.specs.Input.{first-place, cut, is-digit, number-in, key-in, put-in, line-in, or-bad};
+ghost use Rattle.lines.specs.Input.{first-place, cut, is-digit, number-in, key-in, put-in, seal-in, line-in, or-bad};
 ghost use Rattle.lines.specs.Laws.{Cuts, Tells, Reads-back};
 ghost use Rattle.std.specs.Options.{Cases as BySome};
 ghost use lib.ListN.{length};
 ghost use mathlib.Core.List.{[]};
 ghost use mathlib.Core.Path.{_≡_};
 
-// A command, with the key and the value as they stand in the line.
+// A command, with the key and the value as they stand in the line, or the seal of all before it.
 #[derive(Clone, Copy)]
 pub enum Line {
     Put(u32, u16),
     Drop(u32),
     Get(u32),
+    Seal,
 }
 
-// The bytes are no command.
+// The bytes are no such line.
 #[derive(Clone, Copy)]
 pub struct BadLine;
 
@@ -91,7 +92,18 @@ fn read_put(bytes: &[u8]) -> Result<Line, BadLine>
     Ok(Line::Put(key, value as u16))
 }
 
-// By the command character.
+// Nothing stands behind the character.
+fn read_seal(rest: &[u8]) -> Result<Line, BadLine>
+    ensures { λ r. ⌜ r ≡ or-bad (seal-in (now (rest .entry))) ⌝ }
+{
+    if rest.is_empty() {
+        Ok(Line::Seal)
+    } else {
+        Err(BadLine)
+    }
+}
+
+// By the first character.
 fn read_line(line: &[u8]) -> Result<Line, BadLine>
     ensures { λ r. ⌜ r ≡ or-bad (line-in (now (line .entry))) ⌝ }
 {
@@ -99,6 +111,7 @@ fn read_line(line: &[u8]) -> Result<Line, BadLine>
         [b'+', rest @ ..] => read_put(rest),
         [b'-', rest @ ..] => Ok(Line::Drop(read_key(rest)?)),
         [b'?', rest @ ..] => Ok(Line::Get(read_key(rest)?)),
+        [b'=', rest @ ..] => read_seal(rest),
         _ => Err(BadLine),
     }
 }

@@ -11,6 +11,8 @@ pub enum Reply {
     Dropped(u16),
     Absent,
     Found(u16),
+    Sealed(usize),
+    Refused(u8),
     Bad,
 }
 
@@ -25,6 +27,8 @@ pub impl fmt::Display for Reply as ReplyDisplay {
             Reply::Dropped(v) => write!(f, "dropped {v}"),
             Reply::Absent => write!(f, "absent"),
             Reply::Found(v) => write!(f, "found {v}"),
+            Reply::Sealed(count) => write!(f, "sealed {count}"),
+            Reply::Refused(number) => write!(f, "refused {number}"),
             Reply::Bad => write!(f, "bad line"),
         }
     }

@@ -5,7 +5,7 @@ use lib.ListN.{length, getD}
 use Rattle.std.proofs.shelf.Results.{err-from-errBy}
 use Rattle.lines.specs.Input.{or-bad, with-key}
 use Rattle.lines.specs.declared.input.Line.the-variants.{Drop, Get}
-use Rattle.lines.proofs.Parsing.{read-ok, read-err, plus-rest, minus-rest, ask-rest}
+use Rattle.lines.proofs.Parsing.{read-ok, read-err, plus-rest, minus-rest, ask-rest, seal-rest}
 use Rattle.lines.proofs.input.read_line.Needs as need
 
 pub returns-in-Break-read-key : need.returns-in-Break-read-key
@@ -28,3 +28,6 @@ returns-in-Continue-read-key c =
 pub returns-in-Continue-read-key-2 : need.returns-in-Continue-read-key-2
 returns-in-Continue-read-key-2 c =
     sym (ap or-bad (ask-rest (c .args .line .now) (search needs) (search needs) ∙ ap (with-key Get) (read-ok _ _ (c .in-Continue-read-key-2 .ensures tt))))
+
+pub returns-in-61 : need.returns-in-61
+returns-in-61 c = c .read-seal .ensures ∙ sym (ap or-bad (seal-rest (c .args .line .now) (search needs) (search needs)))
