@@ -1,4 +1,6 @@
 // Whether two tables hold one map. Seeds put the same records into other cells, so cells can't be compared one by one.
+#![tactic(auto)]
+
 ghost use Rattle.compare.specs.Compare.{StoresBySome, Has, HasAll, Compares};
 ghost use Rattle.maps.specs.Maps.{kinds_of};
 ghost use Rattle.std.specs.Prelude.{◌≡◌, Decides};

@@ -1,4 +1,6 @@
 // Worked examples: some proved by one theorem over their table, others run as tests.
+#![tactic(auto)]
+
 ghost use Rattle.examples.specs.Examples.{Examples, cases};
 ghost use Rattle.examples.specs.Further.{FurtherExamples, further_cases};
 ghost use Rattle.std.specs.Prelude.{◌≡◌, length};

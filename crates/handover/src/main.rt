@@ -1,4 +1,6 @@
 // Reads lines from the standard input, and answers each with a line. Commands are entered in sheets, and `=` seals.
+#![tactic(auto)]
+
 ghost use Rattle.std.specs.Prelude.{◌<◌, length, IfSome, IfOk};
 
 mod desk;

@@ -1,4 +1,6 @@
 // Reading images: from the bytes of a whole store to the seed, the count and the lent cells.
+#![tactic(auto)]
+
 mod bits;
 mod header;
 mod places;

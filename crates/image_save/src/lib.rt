@@ -1,3 +1,5 @@
 // Writing the image of a table into a store.
+#![tactic(auto)]
+
 mod blocks;
 pub mod save;

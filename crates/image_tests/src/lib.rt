@@ -1,4 +1,6 @@
 // Images read and written again.
+#![tactic(auto)]
+
 ghost use Rattle.image_tests.specs.Example.{ExampleImage, ExampleRefusals};
 ghost use Rattle.std.specs.Prelude.{◌≡◌, length, OnOk};
 

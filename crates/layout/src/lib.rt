@@ -1,4 +1,6 @@
 //! The layout of a map in cells: definitions in specs/, theorems in proofs/, and no more code than names them.
+#![tactic(auto)]
+
 ghost use Rattle.std.specs.Prelude.{◌^◌};
 ghost use Rattle.layout.specs.Theorems.{Largest, Theorems};
 

@@ -1,4 +1,6 @@
 // Commands on a map, and their answers. What they mean is in specs/.
+#![tactic(auto)]
+
 ghost use Rattle.maps.specs.Commands.{row_of};
 ghost use Rattle.std.specs.Prelude.{◌≡◌};
 

@@ -1,5 +1,7 @@
 //! The plain machine, what one call of a register leaves, and lists of calls: definitions in specs/, theorems in proofs/,
 //! and no more code than names them.
+#![tactic(auto)]
+
 ghost use Rattle.model.specs.Blocks.{BlocksWritten, Cuts};
 ghost use Rattle.model.specs.Claims.{AllListsOfCalls, LentCells};
 

@@ -1,4 +1,6 @@
 // Kinds whose codes are numbers of a fixed width: staff numbers as keys, papers held and hours as values.
+#![tactic(auto)]
+
 pub mod hours;
 pub mod hours_kind;
 pub mod papers;

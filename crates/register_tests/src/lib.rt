@@ -1,4 +1,6 @@
 // The register on examples: staff numbers, papers, plain stores.
+#![tactic(auto)]
+
 #[cfg(test)]
 mod begins;
 #[cfg(test)]

@@ -1,4 +1,6 @@
 // Lent cells checked, and sheets of commands run on them.
+#![tactic(auto)]
+
 pub mod check;
 pub mod places;
 pub mod sheet;

@@ -1,4 +1,6 @@
 // Stores of blocks: what a store is, and two base stores over lent bytes.
+#![tactic(auto)]
+
 mod bytes;
 pub mod checked;
 pub mod fault;

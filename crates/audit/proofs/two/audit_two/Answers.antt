@@ -7,9 +7,9 @@ use Rattle.audit.specs.declared.fault.AuditFault.TheVariants.{First, Second}
 use Rattle.audit.proofs.Pairs.{stored, first_refused, second_refused, both_read, yes_exactly, equal_images}
 use Rattle.audit.proofs.two.audit_two.Goals as goal
 
-pub same-map-same-requires : goal.same-map-same-requires
-same-map-same-requires g c =
-    let x = setup g.K.Key.kind g.row.V-Value.kind in
+pub same_map-same-requires : goal.same_map-same-requires
+same_map-same-requires g c =
+    let x = setup g.K.Key.kind g.V.Value.kind in
     let s = meaning g.S.Store.count g.S.Store.protected g.S.Store.shown g.S.Store.kept c.args.first.now in
     let t = meaning g.T.Store.count g.T.Store.protected g.T.Store.shown g.T.Store.kept c.args.second.now in
     record {
@@ -17,19 +17,19 @@ same-map-same-requires g c =
         c.in-Ok.field-0-1,
         stored x s c.args.first_cells.now c.args.work.now (c.in-Ok.count, c.in-Ok.field-0-1) c.examine.new.cells c.examine.new.work c.in-Ok.ensures,
       );
-      other-held = stored x t c.args.second-cells.now c.examine.new.work (c.in-Ok-examine.other-count, c.in-Ok-examine.other_seed)
+      other_held = stored x t c.args.second_cells.now c.examine.new.work (c.in-Ok-examine.other_count, c.in-Ok-examine.other_seed)
           c.examine-in-Ok.new.cells c.examine-in-Ok.new.work c.in-Ok-examine.ensures;
     }
 
 pub returns-in-Err : goal.returns-in-Err
 returns-in-Err g c =
-    let x = setup g.K.Key.kind g.row.V-Value.kind in
+    let x = setup g.K.Key.kind g.V.Value.kind in
     let s = meaning g.S.Store.count g.S.Store.protected g.S.Store.shown g.S.Store.kept c.args.first.now in
     let t = meaning g.T.Store.count g.T.Store.protected g.T.Store.shown g.T.Store.kept c.args.second.now in
     let cells = c.args.first_cells.now in
-    let other = c.args.second-cells.now in
+    let other = c.args.second_cells.now in
     let work = c.args.work.now in
-    let w = (setup_laws g.K.Key.kind g.row.V-Value.kind g.met.K.Key.lawful g.met.V.Value.lawful).written in
+    let w = (setup_laws g.K.Key.kind g.V.Value.kind g.met.K.Key.lawful g.met.V.Value.lawful).written in
     let f = told g.Fault.BlockFault-1.number g.Fault.BlockFault-1.block c.in-Err.fault in
     let r = comparison g.Fault.BlockFault-1.number g.Fault.BlockFault-1.block g.Fault.BlockFault-2.number g.Fault.BlockFault-2.block (Err (First c.in-Err.fault))
     c.examine.new.cells other c.examine.new.work in
@@ -42,13 +42,13 @@ returns-in-Err g c =
 
 pub returns-in-Err-examine : goal.returns-in-Err-examine
 returns-in-Err-examine g c =
-    let x = setup g.K.Key.kind g.row.V-Value.kind in
+    let x = setup g.K.Key.kind g.V.Value.kind in
     let s = meaning g.S.Store.count g.S.Store.protected g.S.Store.shown g.S.Store.kept c.args.first.now in
     let t = meaning g.T.Store.count g.T.Store.protected g.T.Store.shown g.T.Store.kept c.args.second.now in
     let cells = c.args.first_cells.now in
-    let other = c.args.second-cells.now in
+    let other = c.args.second_cells.now in
     let work = c.args.work.now in
-    let w = (setup_laws g.K.Key.kind g.row.V-Value.kind g.met.K.Key.lawful g.met.V.Value.lawful).written in
+    let w = (setup_laws g.K.Key.kind g.V.Value.kind g.met.K.Key.lawful g.met.V.Value.lawful).written in
     let f = told g.Fault.BlockFault-2.number g.Fault.BlockFault-2.block c.in-Err-examine.fault in
     let r = comparison g.Fault.BlockFault-1.number g.Fault.BlockFault-1.block g.Fault.BlockFault-2.number g.Fault.BlockFault-2.block (Err (Second c.in-Err-examine.fault))
     c.clear.new.cells c.examine-in-Ok.new.cells c.examine-in-Ok.new.work in
@@ -62,19 +62,19 @@ returns-in-Err-examine g c =
 
 pub returns-in-Ok-examine : goal.returns-in-Ok-examine
 returns-in-Ok-examine g c =
-    let x = setup g.K.Key.kind g.row.V-Value.kind in
+    let x = setup g.K.Key.kind g.V.Value.kind in
     let s = meaning g.S.Store.count g.S.Store.protected g.S.Store.shown g.S.Store.kept c.args.first.now in
     let t = meaning g.T.Store.count g.T.Store.protected g.T.Store.shown g.T.Store.kept c.args.second.now in
     let cells = c.args.first_cells.now in
-    let other = c.args.second-cells.now in
+    let other = c.args.second_cells.now in
     let work = c.args.work.now in
-    let w = (setup_laws g.K.Key.kind g.row.V-Value.kind g.met.K.Key.lawful g.met.V.Value.lawful).written in
-    let r = comparison g.Fault.BlockFault-1.number g.Fault.BlockFault-1.block g.Fault.BlockFault-2.number g.Fault.BlockFault-2.block (Ok c.same-map-same.result)
+    let w = (setup_laws g.K.Key.kind g.V.Value.kind g.met.K.Key.lawful g.met.V.Value.lawful).written in
+    let r = comparison g.Fault.BlockFault-1.number g.Fault.BlockFault-1.block g.Fault.BlockFault-2.number g.Fault.BlockFault-2.block (Ok c.same_map-same.result)
     c.clear-in-Ok-examine.new.cells c.clear-in-Ok-examine-2.new.cells c.examine-in-Ok.new.work in
     let both = both_read x s t cells other work (c.in-Ok.count, c.in-Ok.field-0-1) c.examine.new.cells c.clear-in-Ok-examine.new.cells c.examine.new.work c.in-Ok.ensures
-    (c.clear-in-Ok-examine.ensures ∙ ap (λ n. replicate n None) c.examine.auto.cells) w (c.in-Ok-examine.other-count, c.in-Ok-examine.other_seed)
+    (c.clear-in-Ok-examine.ensures ∙ ap (λ n. replicate n None) c.examine.auto.cells) w (c.in-Ok-examine.other_count, c.in-Ok-examine.other_seed)
     c.examine-in-Ok.new.cells c.clear-in-Ok-examine-2.new.cells c.examine-in-Ok.new.work c.in-Ok-examine.ensures
-    (c.clear-in-Ok-examine-2.ensures ∙ ap (λ n. replicate n None) c.examine-in-Ok.auto.cells) c.same-map-same.result c.same-map-same.ensures in
+    (c.clear-in-Ok-examine-2.ensures ∙ ap (λ n. replicate n None) c.examine-in-Ok.auto.cells) c.same_map-same.result c.same_map-same.ensures in
     record {
       audits = both;
       yes = yes_exactly x s t cells other work w r both;

@@ -6,18 +6,18 @@ use Rattle.contents.specs.Readings.{FoundIn}
 use Rattle.contents.proofs.Found.{refused_found}
 use Rattle.contents.proofs.find.read_contents.Goals as goal
 
-pub returns-in-err-found : goal.returns-in-err-found
-returns-in-err-found g c =
+pub returns-in_err-found : goal.returns-in_err-found
+returns-in_err-found g c =
     let number = g.Fault.BlockFault.number in
     let block = g.Fault.BlockFault.block in
     let shown = g.S.Store.shown c.args.store.now in
-    let told = c.in-err-found.ensures in
-    let p = err_from_is_err_and c.from-residual.result c.from-residual.ensures.1 in
+    let told = c.in_err-found.ensures in
+    let p = err_from_is_err_and c.from_residual.result c.from_residual.ensures.1 in
     record {
-      found = refused_found (kinds_of g.K.Key.kind g.row.V-Value.kind) number block shown (length c.args.cells.now) c.in-err-found.field-0.0
-          c.from-residual.result c.read-store.new.cells (p.1 ∙ ap Err p.2) told.answer told.cells;
+      found = refused_found (kinds_of g.K.Key.kind g.V.Value.kind) number block shown (length c.args.cells.now) c.in_err-found.field-0.0
+          c.from_residual.result c.read_store.new.cells (p.1 ∙ ap Err p.2) told.answer told.cells;
       work = told.work;
     }
 
 pub returns : goal.returns
-returns g c = record { found = c.in-ok-found.ensures.exact; work = c.in-ok-found.ensures.work }
+returns g c = record { found = c.in_ok-found.ensures.exact; work = c.in_ok-found.ensures.work }

@@ -4,13 +4,13 @@ use Rattle.layout.specs.Capacity.{power, capacity}
 use Rattle.layout.proofs.Capacities.{power_law}
 use Rattle.image.proofs.capacity.capacity_of.Goals as goal
 
-pub overflow-shl-result : goal.overflow-shl-result
-overflow-shl-result c = omega (arith, c.power-of.ensures, (power_law c.args.count).1)
+pub overflow_shl-result : goal.overflow_shl-result
+overflow_shl-result c = omega (arith, c.power_of.ensures, (power_law c.args.count).1)
 
 pub returns : goal.returns
 unfolding capacity
 returns c =
     let p = power_law c.args.count in
     let h : 2 ^ power c.args.count ≤ 2 ^ 10 = pow-le-pow_right {n = 2} (omega arith) {i = power c.args.count} {j = 10} p.1 in
-    let e : 2 ^ c.power-of.result ≡ 2 ^ power c.args.count = ap (λ y. 2 ^ y) c.power-of.ensures in
+    let e : 2 ^ c.power_of.result ≡ 2 ^ power c.args.count = ap (λ y. 2 ^ y) c.power_of.ensures in
     omega arith

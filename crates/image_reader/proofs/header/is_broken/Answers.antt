@@ -5,29 +5,29 @@ use Rattle.image_reader.proofs.Rules.{edition_rule, key_rule, value_rule, power_
 use Rattle.image_reader.proofs.header.is_broken.Goals as goal
 
 pub returns-in-0 : goal.returns-in-0
-returns-in-0 g c = edition_rule _ _ _ _ c.byte-at-b.ensures c.in-0.is
+returns-in-0 g c = edition_rule _ _ _ _ c.byte_at-b.ensures c.in-0.is
 
 pub returns-in-1 : goal.returns-in-1
-returns-in-1 g c = key_rule _ _ _ _ c.byte-at-b.ensures _ c.kind-number.ensures c.in-1.is
+returns-in-1 g c = key_rule _ _ _ _ c.byte_at-b.ensures _ c.kind_number.ensures c.in-1.is
 
 pub returns-in-2 : goal.returns-in-2
-returns-in-2 g c = value_rule _ _ _ _ c.byte-at-b.ensures _ c.kind-number-in-2.ensures c.in-2.is
+returns-in-2 g c = value_rule _ _ _ _ c.byte_at-b.ensures _ c.kind_number-in-2.ensures c.in-2.is
 
 pub returns-then-b-lt3 : goal.returns-then-b-lt3
-returns-then-b-lt3 g c = power_low _ _ _ _ c.byte-at-b.ensures c.in-3.is c.if-b-lt3.true
+returns-then-b-lt3 g c = power_low _ _ _ _ c.byte_at-b.ensures c.in-3.is c.if-b-lt3.true
 
 pub returns-else-b-lt3 : goal.returns-else-b-lt3
-returns-else-b-lt3 g c = power_high _ _ _ _ c.byte-at-b.ensures c.in-3.is c.if-b-lt3.false
+returns-else-b-lt3 g c = power_high _ _ _ _ c.byte_at-b.ensures c.in-3.is c.if-b-lt3.false
 
 pub returns-in-4 : goal.returns-in-4
 returns-in-4 g c =
-    c.is-wrong-count.ensures ∙ count_rule (kinds_of g.K.Key.kind g.row.V-Value.kind) c.args.bytes.now c.args.i _ c.byte-at-b.ensures _ _ c.count-at.ensures c.byte-at.ensures c.in-4.is
+    c.is_wrong_count.ensures ∙ count_rule (kinds_of g.K.Key.kind g.V.Value.kind) c.args.bytes.now c.args.i _ c.byte_at-b.ensures _ _ c.count_at.ensures c.byte_at.ensures c.in-4.is
 
 pub returns-in-default : goal.returns-in-default
-returns-in-default g c = zero_rule (kinds_of g.K.Key.kind g.row.V-Value.kind) c.args.bytes.now c.args.i _ c.byte-at-b.ensures (omega arith) (grind (arith, nat_tests))
+returns-in-default g c = zero_rule (kinds_of g.K.Key.kind g.V.Value.kind) c.args.bytes.now c.args.i _ c.byte_at-b.ensures (omega arith) (grind (arith, nat_tests))
 
 pub returns-in-5 : goal.returns-in-5
-returns-in-5 g c = free_rule (kinds_of g.K.Key.kind g.row.V-Value.kind) c.args.bytes.now c.args.i _ c.byte-at-b.ensures (omega arith) (grind (arith, nat_tests))
+returns-in-5 g c = free_rule (kinds_of g.K.Key.kind g.V.Value.kind) c.args.bytes.now c.args.i _ c.byte_at-b.ensures (omega arith) (grind (arith, nat_tests))
 
 pub returns-in-5·2 : goal.returns-in-5·2
-returns-in-5·2 g c = free_rule (kinds_of g.K.Key.kind g.row.V-Value.kind) c.args.bytes.now c.args.i _ c.byte-at-b.ensures (omega arith) (grind (arith, nat_tests))
+returns-in-5·2 g c = free_rule (kinds_of g.K.Key.kind g.V.Value.kind) c.args.bytes.now c.args.i _ c.byte_at-b.ensures (omega arith) (grind (arith, nat_tests))

@@ -7,10 +7,10 @@ use Rattle.image_reader.proofs.places.is_barred.Given as goal
 
 abbrev pub invariant-way : goal.invariant-way
 invariant-way g l =
-    let x = kinds_of g.K.Key.kind g.row.V-Value.kind in
+    let x = kinds_of g.K.Key.kind g.V.Value.kind in
     Way (rule x l.seed (length l.cells)) (keyed_cells x l.cells) l.key l.i l.j
 
 abbrev pub decreases-way : goal.decreases-way
 decreases-way g l =
-    let J = rule (kinds_of g.K.Key.kind g.row.V-Value.kind) l.seed (length l.cells) in
+    let J = rule (kinds_of g.K.Key.kind g.V.Value.kind) l.seed (length l.cells) in
     from_home J l.key l.i - from_home J l.key l.j

@@ -8,10 +8,10 @@ use Rattle.image_reader.proofs.reader.read_image.Goals as goal
 
 pub returns-in-Ok : goal.returns-in-Ok
 returns-in-Ok g c =
-    let x = kinds_of g.K.Key.kind g.row.V-Value.kind in
+    let x = kinds_of g.K.Key.kind g.V.Value.kind in
     let laws : KindsLaws x = record { key = g.met.K.Key.lawful; value = g.met.V.Value.lawful } in
     let bs = c.args.bytes.now in
-    let small : (i : ℕ) → get_or bs i 0 < 256 = λ i. omega (arith, c.type-inv.bytes i) in
+    let small : (i : ℕ) → get_or bs i 0 < 256 = λ i. omega (arith, c.type_inv.bytes i) in
     let n = length c.args.cells.now in
     let a = c.in-Ok.ensures.answer in
     let k : c.scan.new.cells ≡ cells_after x n (opened {F = g.row.F.Denot} x bs) =
@@ -20,10 +20,10 @@ returns-in-Ok g c =
 
 pub returns-in-Err : goal.returns-in-Err
 returns-in-Err g c =
-    let x = kinds_of g.K.Key.kind g.row.V-Value.kind in
+    let x = kinds_of g.K.Key.kind g.V.Value.kind in
     let laws : KindsLaws x = record { key = g.met.K.Key.lawful; value = g.met.V.Value.lawful } in
     let bs = c.args.bytes.now in
-    let small : (i : ℕ) → get_or bs i 0 < 256 = λ i. omega (arith, c.type-inv.bytes i) in
+    let small : (i : ℕ) → get_or bs i 0 < 256 = λ i. omega (arith, c.type_inv.bytes i) in
     let n = length c.args.cells.now in
     let a = c.in-Err.ensures.answer in
     let m : length c.scan.new.cells ≡ n = omega arith in

@@ -5,110 +5,110 @@ use Rattle.image.specs.Opened.{capacity_of}
 use Rattle.image_reader.proofs.Chain.{refused, at_header, low_power, low_capacity, at_bits, inside, at_records, at_layout, at_tail, accepted}
 use Rattle.image_reader.proofs.reader.scan.Goals as goal
 
-pub returns-in-err-check-header : goal.returns-in-err-check-header
-returns-in-err-check-header g c =
-    let x = kinds_of g.K.Key.kind g.row.V-Value.kind in
+pub returns-in_err-check_header : goal.returns-in_err-check_header
+returns-in_err-check_header g c =
+    let x = kinds_of g.K.Key.kind g.V.Value.kind in
     let laws : KindsLaws x = record { key = g.met.K.Key.lawful; value = g.met.V.Value.lawful } in
     let bs = c.args.bytes.now in
-    let small : (i : ℕ) → get_or bs i 0 < 256 = λ i. omega (arith, c.type-inv.bytes i) in
-    let o = at_header g.row.F.Denot x laws bs small c.in-err-check-header.field-0.0 c.in-err-check-header.ensures in
-    let a = refused g.row.F.Denot x laws bs small c.in-err-check-header.field-0.0 o c.from-residual.result (err_from_is_err_and c.from-residual.result c.from-residual.ensures.1) c.args.cells.now _ in
+    let small : (i : ℕ) → get_or bs i 0 < 256 = λ i. omega (arith, c.type_inv.bytes i) in
+    let o = at_header g.row.F.Denot x laws bs small c.in_err-check_header.field-0.0 c.in_err-check_header.ensures in
+    let a = refused g.row.F.Denot x laws bs small c.in_err-check_header.field-0.0 o c.from_residual.result (err_from_is_err_and c.from_residual.result c.from_residual.ensures.1) c.args.cells.now _ in
     record { answer = a.0; cells = a.1 }
 
 pub capacity-cap-requires : goal.capacity-cap-requires
 capacity-cap-requires g c =
-    let x = kinds_of g.K.Key.kind g.row.V-Value.kind in
+    let x = kinds_of g.K.Key.kind g.V.Value.kind in
     let laws : KindsLaws x = record { key = g.met.K.Key.lawful; value = g.met.V.Value.lawful } in
     let bs = c.args.bytes.now in
-    let small : (i : ℕ) → get_or bs i 0 < 256 = λ i. omega (arith, c.type-inv.bytes i) in
-    omega (arith, c.byte-at.ensures, low_power g.row.F.Denot x laws bs small c.in-ok-check-header.field-0 c.in-ok-check-header.ensures)
+    let small : (i : ℕ) → get_or bs i 0 < 256 = λ i. omega (arith, c.type_inv.bytes i) in
+    omega (arith, c.byte_at.ensures, low_power g.row.F.Denot x laws bs small c.in_ok-check_header.field-0 c.in_ok-check_header.ensures)
 
-pub returns-in-err-check-bits : goal.returns-in-err-check-bits
-returns-in-err-check-bits g c =
-    let x = kinds_of g.K.Key.kind g.row.V-Value.kind in
+pub returns-in_err-check_bits : goal.returns-in_err-check_bits
+returns-in_err-check_bits g c =
+    let x = kinds_of g.K.Key.kind g.V.Value.kind in
     let laws : KindsLaws x = record { key = g.met.K.Key.lawful; value = g.met.V.Value.lawful } in
     let bs = c.args.bytes.now in
-    let small : (i : ℕ) → get_or bs i 0 < 256 = λ i. omega (arith, c.type-inv.bytes i) in
-    let ek : c.capacity-cap.result ≡ capacity_of bs = c.capacity-cap.ensures ∙ ap (λ p. 2 ^ p) c.byte-at.ensures in
-    let o = at_bits g.row.F.Denot x laws bs small c.in-ok-check-header.field-0 c.in-ok-check-header.ensures c.capacity-cap.result ek c.in-err-check-bits.field-0.0 c.in-err-check-bits.ensures in
-    let a = refused g.row.F.Denot x laws bs small c.in-err-check-bits.field-0.0 o c.from-residual-in-err-check-bits.result (err_from_is_err_and c.from-residual-in-err-check-bits.result c.from-residual-in-err-check-bits.ensures.1) c.args.cells.now _ in
+    let small : (i : ℕ) → get_or bs i 0 < 256 = λ i. omega (arith, c.type_inv.bytes i) in
+    let ek : c.capacity-cap.result ≡ capacity_of bs = c.capacity-cap.ensures ∙ ap (λ p. 2 ^ p) c.byte_at.ensures in
+    let o = at_bits g.row.F.Denot x laws bs small c.in_ok-check_header.field-0 c.in_ok-check_header.ensures c.capacity-cap.result ek c.in_err-check_bits.field-0.0 c.in_err-check_bits.ensures in
+    let a = refused g.row.F.Denot x laws bs small c.in_err-check_bits.field-0.0 o c.from_residual-in_err-check_bits.result (err_from_is_err_and c.from_residual-in_err-check_bits.result c.from_residual-in_err-check_bits.ensures.1) c.args.cells.now _ in
     record { answer = a.0; cells = a.1 }
 
-pub read-cells-requires : goal.read-cells-requires
-read-cells-requires g c =
-    let x = kinds_of g.K.Key.kind g.row.V-Value.kind in
+pub read_cells-requires : goal.read_cells-requires
+read_cells-requires g c =
+    let x = kinds_of g.K.Key.kind g.V.Value.kind in
     let laws : KindsLaws x = record { key = g.met.K.Key.lawful; value = g.met.V.Value.lawful } in
     let bs = c.args.bytes.now in
-    let small : (i : ℕ) → get_or bs i 0 < 256 = λ i. omega (arith, c.type-inv.bytes i) in
-    let ek : c.capacity-cap.result ≡ capacity_of bs = c.capacity-cap.ensures ∙ ap (λ p. 2 ^ p) c.byte-at.ensures in
-    record { room = omega (arith, low_capacity g.row.F.Denot x laws bs small c.in-ok-check-header.field-0 c.in-ok-check-header.ensures c.capacity-cap.result ek, c.requires); inside = inside g.row.F.Denot x laws bs small c.in-ok-check-header.field-0 c.in-ok-check-header.ensures c.capacity-cap.result ek c.in-ok-check-bits.field-0 c.in-ok-check-bits.ensures }
+    let small : (i : ℕ) → get_or bs i 0 < 256 = λ i. omega (arith, c.type_inv.bytes i) in
+    let ek : c.capacity-cap.result ≡ capacity_of bs = c.capacity-cap.ensures ∙ ap (λ p. 2 ^ p) c.byte_at.ensures in
+    record { room = omega (arith, low_capacity g.row.F.Denot x laws bs small c.in_ok-check_header.field-0 c.in_ok-check_header.ensures c.capacity-cap.result ek, c.requires); inside = inside g.row.F.Denot x laws bs small c.in_ok-check_header.field-0 c.in_ok-check_header.ensures c.capacity-cap.result ek c.in_ok-check_bits.field-0 c.in_ok-check_bits.ensures }
 
-pub returns-in-err-end : goal.returns-in-err-end
-returns-in-err-end g c =
-    let x = kinds_of g.K.Key.kind g.row.V-Value.kind in
+pub returns-in_err-end : goal.returns-in_err-end
+returns-in_err-end g c =
+    let x = kinds_of g.K.Key.kind g.V.Value.kind in
     let laws : KindsLaws x = record { key = g.met.K.Key.lawful; value = g.met.V.Value.lawful } in
     let bs = c.args.bytes.now in
-    let small : (i : ℕ) → get_or bs i 0 < 256 = λ i. omega (arith, c.type-inv.bytes i) in
-    let ek : c.capacity-cap.result ≡ capacity_of bs = c.capacity-cap.ensures ∙ ap (λ p. 2 ^ p) c.byte-at.ensures in
-    let o = at_records g.row.F.Denot x laws bs small c.in-ok-check-header.field-0 c.in-ok-check-header.ensures c.capacity-cap.result ek c.in-ok-check-bits.field-0 c.in-ok-check-bits.ensures c.in-err-end.field-0.0 c.in-err-end.ensures.answer in
-    let a = refused g.row.F.Denot x laws bs small c.in-err-end.field-0.0 o c.from-residual-in-err-end.result (err_from_is_err_and c.from-residual-in-err-end.result c.from-residual-in-err-end.ensures.1) c.args.cells.now c.read-cells.new.cells in
+    let small : (i : ℕ) → get_or bs i 0 < 256 = λ i. omega (arith, c.type_inv.bytes i) in
+    let ek : c.capacity-cap.result ≡ capacity_of bs = c.capacity-cap.ensures ∙ ap (λ p. 2 ^ p) c.byte_at.ensures in
+    let o = at_records g.row.F.Denot x laws bs small c.in_ok-check_header.field-0 c.in_ok-check_header.ensures c.capacity-cap.result ek c.in_ok-check_bits.field-0 c.in_ok-check_bits.ensures c.in_err-end.field-0.0 c.in_err-end.ensures.answer in
+    let a = refused g.row.F.Denot x laws bs small c.in_err-end.field-0.0 o c.from_residual-in_err-end.result (err_from_is_err_and c.from_residual-in_err-end.result c.from_residual-in_err-end.ensures.1) c.args.cells.now c.read_cells.new.cells in
     record { answer = a.0; cells = a.1 }
 
-pub slice-bounds-check-layout-end : goal.slice-bounds-check-layout-end
-slice-bounds-check-layout-end g c =
-    let x = kinds_of g.K.Key.kind g.row.V-Value.kind in
+pub slice_bounds-check_layout-end : goal.slice_bounds-check_layout-end
+slice_bounds-check_layout-end g c =
+    let x = kinds_of g.K.Key.kind g.V.Value.kind in
     let laws : KindsLaws x = record { key = g.met.K.Key.lawful; value = g.met.V.Value.lawful } in
     let bs = c.args.bytes.now in
-    let small : (i : ℕ) → get_or bs i 0 < 256 = λ i. omega (arith, c.type-inv.bytes i) in
-    let ek : c.capacity-cap.result ≡ capacity_of bs = c.capacity-cap.ensures ∙ ap (λ p. 2 ^ p) c.byte-at.ensures in
-    omega (arith, low_capacity g.row.F.Denot x laws bs small c.in-ok-check-header.field-0 c.in-ok-check-header.ensures c.capacity-cap.result ek, c.requires, c.read-cells.auto.cells)
+    let small : (i : ℕ) → get_or bs i 0 < 256 = λ i. omega (arith, c.type_inv.bytes i) in
+    let ek : c.capacity-cap.result ≡ capacity_of bs = c.capacity-cap.ensures ∙ ap (λ p. 2 ^ p) c.byte_at.ensures in
+    omega (arith, low_capacity g.row.F.Denot x laws bs small c.in_ok-check_header.field-0 c.in_ok-check_header.ensures c.capacity-cap.result ek, c.requires, c.read_cells.auto.cells)
 
-pub slice-bounds-check-layout-end-2 : goal.slice-bounds-check-layout-end-2
-slice-bounds-check-layout-end-2 g c =
-    let x = kinds_of g.K.Key.kind g.row.V-Value.kind in
+pub slice_bounds-check_layout-end-2 : goal.slice_bounds-check_layout-end-2
+slice_bounds-check_layout-end-2 g c =
+    let x = kinds_of g.K.Key.kind g.V.Value.kind in
     let laws : KindsLaws x = record { key = g.met.K.Key.lawful; value = g.met.V.Value.lawful } in
     let bs = c.args.bytes.now in
-    let small : (i : ℕ) → get_or bs i 0 < 256 = λ i. omega (arith, c.type-inv.bytes i) in
-    let ek : c.capacity-cap.result ≡ capacity_of bs = c.capacity-cap.ensures ∙ ap (λ p. 2 ^ p) c.byte-at.ensures in
-    omega (arith, low_capacity g.row.F.Denot x laws bs small c.in-ok-check-header.field-0 c.in-ok-check-header.ensures c.capacity-cap.result ek, c.requires, c.read-cells.auto.cells, length-take c.capacity-cap.result c.read-cells.new.cells)
+    let small : (i : ℕ) → get_or bs i 0 < 256 = λ i. omega (arith, c.type_inv.bytes i) in
+    let ek : c.capacity-cap.result ≡ capacity_of bs = c.capacity-cap.ensures ∙ ap (λ p. 2 ^ p) c.byte_at.ensures in
+    omega (arith, low_capacity g.row.F.Denot x laws bs small c.in_ok-check_header.field-0 c.in_ok-check_header.ensures c.capacity-cap.result ek, c.requires, c.read_cells.auto.cells, length-take c.capacity-cap.result c.read_cells.new.cells)
 
-pub check-layout-requires : goal.check-layout-requires
-check-layout-requires g c =
-    let x = kinds_of g.K.Key.kind g.row.V-Value.kind in
+pub check_layout-requires : goal.check_layout-requires
+check_layout-requires g c =
+    let x = kinds_of g.K.Key.kind g.V.Value.kind in
     let laws : KindsLaws x = record { key = g.met.K.Key.lawful; value = g.met.V.Value.lawful } in
     let bs = c.args.bytes.now in
-    let small : (i : ℕ) → get_or bs i 0 < 256 = λ i. omega (arith, c.type-inv.bytes i) in
-    let ek : c.capacity-cap.result ≡ capacity_of bs = c.capacity-cap.ensures ∙ ap (λ p. 2 ^ p) c.byte-at.ensures in
-    omega (arith, low_capacity g.row.F.Denot x laws bs small c.in-ok-check-header.field-0 c.in-ok-check-header.ensures c.capacity-cap.result ek, length-take c.capacity-cap.result c.read-cells.new.cells)
+    let small : (i : ℕ) → get_or bs i 0 < 256 = λ i. omega (arith, c.type_inv.bytes i) in
+    let ek : c.capacity-cap.result ≡ capacity_of bs = c.capacity-cap.ensures ∙ ap (λ p. 2 ^ p) c.byte_at.ensures in
+    omega (arith, low_capacity g.row.F.Denot x laws bs small c.in_ok-check_header.field-0 c.in_ok-check_header.ensures c.capacity-cap.result ek, length-take c.capacity-cap.result c.read_cells.new.cells)
 
-pub returns-in-err-check-layout : goal.returns-in-err-check-layout
-returns-in-err-check-layout g c =
-    let x = kinds_of g.K.Key.kind g.row.V-Value.kind in
+pub returns-in_err-check_layout : goal.returns-in_err-check_layout
+returns-in_err-check_layout g c =
+    let x = kinds_of g.K.Key.kind g.V.Value.kind in
     let laws : KindsLaws x = record { key = g.met.K.Key.lawful; value = g.met.V.Value.lawful } in
     let bs = c.args.bytes.now in
-    let small : (i : ℕ) → get_or bs i 0 < 256 = λ i. omega (arith, c.type-inv.bytes i) in
-    let ek : c.capacity-cap.result ≡ capacity_of bs = c.capacity-cap.ensures ∙ ap (λ p. 2 ^ p) c.byte-at.ensures in
-    let o = at_layout g.row.F.Denot x laws bs small c.in-ok-check-header.field-0 c.in-ok-check-header.ensures c.capacity-cap.result ek c.in-ok-check-bits.field-0 c.in-ok-check-bits.ensures c.in-ok-end.end c.in-ok-end.ensures.answer c.args.cells.now c.read-cells.new.cells c.read-cells.ensures.cells c.seed-at-seed.result c.seed-at-seed.ensures c.in-err-check-layout.field-0.0 c.in-err-check-layout.ensures in
-    let a = refused g.row.F.Denot x laws bs small c.in-err-check-layout.field-0.0 o c.from-residual-in-err-check-layout.result (err_from_is_err_and c.from-residual-in-err-check-layout.result c.from-residual-in-err-check-layout.ensures.1) c.args.cells.now c.read-cells.new.cells in
+    let small : (i : ℕ) → get_or bs i 0 < 256 = λ i. omega (arith, c.type_inv.bytes i) in
+    let ek : c.capacity-cap.result ≡ capacity_of bs = c.capacity-cap.ensures ∙ ap (λ p. 2 ^ p) c.byte_at.ensures in
+    let o = at_layout g.row.F.Denot x laws bs small c.in_ok-check_header.field-0 c.in_ok-check_header.ensures c.capacity-cap.result ek c.in_ok-check_bits.field-0 c.in_ok-check_bits.ensures c.in_ok-end.end c.in_ok-end.ensures.answer c.args.cells.now c.read_cells.new.cells c.read_cells.ensures.cells c.seed_at-seed.result c.seed_at-seed.ensures c.in_err-check_layout.field-0.0 c.in_err-check_layout.ensures in
+    let a = refused g.row.F.Denot x laws bs small c.in_err-check_layout.field-0.0 o c.from_residual-in_err-check_layout.result (err_from_is_err_and c.from_residual-in_err-check_layout.result c.from_residual-in_err-check_layout.ensures.1) c.args.cells.now c.read_cells.new.cells in
     record { answer = a.0; cells = a.1 }
 
-pub returns-in-err-check-tail : goal.returns-in-err-check-tail
-returns-in-err-check-tail g c =
-    let x = kinds_of g.K.Key.kind g.row.V-Value.kind in
+pub returns-in_err-check_tail : goal.returns-in_err-check_tail
+returns-in_err-check_tail g c =
+    let x = kinds_of g.K.Key.kind g.V.Value.kind in
     let laws : KindsLaws x = record { key = g.met.K.Key.lawful; value = g.met.V.Value.lawful } in
     let bs = c.args.bytes.now in
-    let small : (i : ℕ) → get_or bs i 0 < 256 = λ i. omega (arith, c.type-inv.bytes i) in
-    let ek : c.capacity-cap.result ≡ capacity_of bs = c.capacity-cap.ensures ∙ ap (λ p. 2 ^ p) c.byte-at.ensures in
-    let o = at_tail g.row.F.Denot x laws bs small c.in-ok-check-header.field-0 c.in-ok-check-header.ensures c.capacity-cap.result ek c.in-ok-check-bits.field-0 c.in-ok-check-bits.ensures c.in-ok-end.end c.in-ok-end.ensures.answer c.args.cells.now c.read-cells.new.cells c.read-cells.ensures.cells c.seed-at-seed.result c.seed-at-seed.ensures c.in-ok-check-layout.field-0 c.in-ok-check-layout.ensures c.in-err-check-tail.field-0.0 c.in-err-check-tail.ensures in
-    let a = refused g.row.F.Denot x laws bs small c.in-err-check-tail.field-0.0 o c.from-residual-in-err-check-tail.result (err_from_is_err_and c.from-residual-in-err-check-tail.result c.from-residual-in-err-check-tail.ensures.1) c.args.cells.now c.read-cells.new.cells in
+    let small : (i : ℕ) → get_or bs i 0 < 256 = λ i. omega (arith, c.type_inv.bytes i) in
+    let ek : c.capacity-cap.result ≡ capacity_of bs = c.capacity-cap.ensures ∙ ap (λ p. 2 ^ p) c.byte_at.ensures in
+    let o = at_tail g.row.F.Denot x laws bs small c.in_ok-check_header.field-0 c.in_ok-check_header.ensures c.capacity-cap.result ek c.in_ok-check_bits.field-0 c.in_ok-check_bits.ensures c.in_ok-end.end c.in_ok-end.ensures.answer c.args.cells.now c.read_cells.new.cells c.read_cells.ensures.cells c.seed_at-seed.result c.seed_at-seed.ensures c.in_ok-check_layout.field-0 c.in_ok-check_layout.ensures c.in_err-check_tail.field-0.0 c.in_err-check_tail.ensures in
+    let a = refused g.row.F.Denot x laws bs small c.in_err-check_tail.field-0.0 o c.from_residual-in_err-check_tail.result (err_from_is_err_and c.from_residual-in_err-check_tail.result c.from_residual-in_err-check_tail.ensures.1) c.args.cells.now c.read_cells.new.cells in
     record { answer = a.0; cells = a.1 }
 
 pub returns : goal.returns
 returns g c =
-    let x = kinds_of g.K.Key.kind g.row.V-Value.kind in
+    let x = kinds_of g.K.Key.kind g.V.Value.kind in
     let laws : KindsLaws x = record { key = g.met.K.Key.lawful; value = g.met.V.Value.lawful } in
     let bs = c.args.bytes.now in
-    let small : (i : ℕ) → get_or bs i 0 < 256 = λ i. omega (arith, c.type-inv.bytes i) in
-    let ek : c.capacity-cap.result ≡ capacity_of bs = c.capacity-cap.ensures ∙ ap (λ p. 2 ^ p) c.byte-at.ensures in
-    let a = accepted g.row.F.Denot x laws bs small c.in-ok-check-header.field-0 c.in-ok-check-header.ensures c.capacity-cap.result ek c.in-ok-check-bits.field-0 c.in-ok-check-bits.ensures c.in-ok-end.end c.in-ok-end.ensures.answer c.args.cells.now c.read-cells.new.cells c.read-cells.ensures.cells c.seed-at-seed.result c.seed-at-seed.ensures c.in-ok-check-layout.field-0 c.in-ok-check-layout.ensures c.in-ok-check-tail.field-0 c.in-ok-check-tail.ensures c.count-at.result c.count-at.ensures in
+    let small : (i : ℕ) → get_or bs i 0 < 256 = λ i. omega (arith, c.type_inv.bytes i) in
+    let ek : c.capacity-cap.result ≡ capacity_of bs = c.capacity-cap.ensures ∙ ap (λ p. 2 ^ p) c.byte_at.ensures in
+    let a = accepted g.row.F.Denot x laws bs small c.in_ok-check_header.field-0 c.in_ok-check_header.ensures c.capacity-cap.result ek c.in_ok-check_bits.field-0 c.in_ok-check_bits.ensures c.in_ok-end.end c.in_ok-end.ensures.answer c.args.cells.now c.read_cells.new.cells c.read_cells.ensures.cells c.seed_at-seed.result c.seed_at-seed.ensures c.in_ok-check_layout.field-0 c.in_ok-check_layout.ensures c.in_ok-check_tail.field-0 c.in_ok-check_tail.ensures c.count_at.result c.count_at.ensures in
     record { answer = a.0; cells = a.1 }

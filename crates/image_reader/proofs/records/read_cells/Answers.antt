@@ -4,35 +4,35 @@ use Rattle.maps.specs.Maps.{KindsLaws, kinds_of}
 use Rattle.image.specs.Opened.{Cells, front_of}
 use Rattle.image_reader.specs.Parts.{place_of, Filled}
 use Rattle.image_reader.proofs.Turns.{Turn, begin, full, empty, fault, done, turned, read_within, record_some, record_none}
-use Rattle.image_reader.proofs.records.read_cells.Goals.{then-is-marked+in-ok-found, else-is-marked}
+use Rattle.image_reader.proofs.records.read_cells.Goals.{then-is-marked+in-ok-found, else-is_marked}
 use Rattle.image_reader.proofs.records.read_cells.Goals as goal
 
 pub loop-c-init : goal.loop-c-init
 loop-c-init g c =
-    begin g.row.F.Denot (kinds_of g.K.Key.kind g.row.V-Value.kind) c.args.bytes.now c.args.cap (32 + c.args.cap / 8) c.args.cells.now c.requires.inside
+    begin g.row.F.Denot (kinds_of g.K.Key.kind g.V.Value.kind) c.args.bytes.now c.args.cap (32 + c.args.cap / 8) c.args.cells.now c.requires.inside
 
-pub put-cell-requires : goal.put-cell-requires
-put-cell-requires g c = omega (arith, c.loop-c.auto.cells, c.requires.room)
+pub put_cell-requires : goal.put_cell-requires
+put_cell-requires g c = omega (arith, c.loop-c.auto.cells, c.requires.room)
 
-pub put-cell-requires-else-is-marked : goal.put-cell-requires-else-is-marked
-put-cell-requires-else-is-marked g c = omega (arith, c.loop-c.auto.cells, c.requires.room)
+pub put_cell-requires-else-is_marked : goal.put_cell-requires-else-is_marked
+put_cell-requires-else-is_marked g c = omega (arith, c.loop-c.auto.cells, c.requires.room)
 
-pub overflow-add-at-then-is-marked : goal.overflow-add-at-then-is-marked
-overflow-add-at-then-is-marked g c =
-    let x = kinds_of g.K.Key.kind g.row.V-Value.kind in
+pub overflow_add-at-then-is_marked : goal.overflow_add-at-then-is_marked
+overflow_add-at-then-is_marked g c =
+    let x = kinds_of g.K.Key.kind g.V.Value.kind in
     let laws : KindsLaws x = record { key = g.met.K.Key.lawful; value = g.met.V.Value.lawful } in
     let bs = c.args.bytes.now in
-    let f = record_some c.loop-c.at (front_of x (drop c.loop-c.at bs)) (c.in-ok-found.found, c.in-ok-found.n) c.in-ok-found.ensures in
-    omega (arith, read_within x laws bs c.loop-c.at c.in-ok-found.found c.in-ok-found.n c.loop-c.invariant.0 f)
+    let f = record_some c.loop-c.at (front_of x (drop c.loop-c.at bs)) (c.in_ok-found.found, c.in_ok-found.n) c.in_ok-found.ensures in
+    omega (arith, read_within x laws bs c.loop-c.at c.in_ok-found.found c.in_ok-found.n c.loop-c.invariant.0 f)
 
-pub returns-in-err-found : goal.returns-in-err-found
-returns-in-err-found g c =
-    let x = kinds_of g.K.Key.kind g.row.V-Value.kind in
+pub returns-in_err-found : goal.returns-in_err-found
+returns-in_err-found g c =
+    let x = kinds_of g.K.Key.kind g.V.Value.kind in
     let bs = c.args.bytes.now in
     let old = c.args.cells.now in
-    let p = err_from_is_err_and c.from-residual.result c.from-residual.ensures.1 in
-    let n = record_none c.loop-c.at (front_of x (drop c.loop-c.at bs)) c.in-err-found.field-0.0 c.in-err-found.ensures in
-    let e = fault g.row.F.Denot x bs c.args.cap (32 + c.args.cap / 8) old c.loop-c.c c.loop-c.cells c.loop-c.at c.loop-c.invariant c.loop-c-test.true (sym c.if-is-marked.ensures) n.0 in
+    let p = err_from_is_err_and c.from_residual.result c.from_residual.ensures.1 in
+    let n = record_none c.loop-c.at (front_of x (drop c.loop-c.at bs)) c.in_err-found.field-0.0 c.in_err-found.ensures in
+    let e = fault g.row.F.Denot x bs c.args.cap (32 + c.args.cap / 8) old c.loop-c.c c.loop-c.cells c.loop-c.at c.loop-c.invariant c.loop-c-test.true (sym c.if-is_marked.ensures) n.0 in
     record {
       answer = p.1 ∙ ap Err (p.2 ∙ n.1) ∙ sym (ap place_of e);
       cells = subst (λ w. Filled x w c.args.cap old c.loop-c.cells) (sym e) tt;
@@ -40,7 +40,7 @@ returns-in-err-found g c =
 
 pub loop-c-preserved : goal.loop-c-preserved
 loop-c-preserved g c =
-    let x = kinds_of g.K.Key.kind g.row.V-Value.kind in
+    let x = kinds_of g.K.Key.kind g.V.Value.kind in
     let laws : KindsLaws x = record { key = g.met.K.Key.lawful; value = g.met.V.Value.lawful } in
     let bs = c.args.bytes.now in
     let old = c.args.cells.now in
@@ -49,22 +49,22 @@ loop-c-preserved g c =
     let i = c.loop-c.c in
     let cells = c.loop-c.cells in
     let lc : i < length cells = omega (arith, c.loop-c.auto.cells, c.requires.room) in
-    elim c.if-is-marked.branch [
+    elim c.if-is_marked.branch [
       | then-is-marked+in-ok-found w ↦
-          let r = w.in-ok-found.found in
-          let n = w.in-ok-found.n in
-          let f = record_some at (front_of x (drop at bs)) (r, n) w.in-ok-found.ensures in
-          turned g.row.F.Denot x bs cap (32 + cap / 8) old (i + 1) (w.cells-is ∙ w.put-cell.ensures ∙ ap (λ y. set cells i (Some y)) w.to-lent.ensures) w.at-is
+          let r = w.in_ok-found.found in
+          let n = w.in_ok-found.n in
+          let f = record_some at (front_of x (drop at bs)) (r, n) w.in_ok-found.ensures in
+          turned g.row.F.Denot x bs cap (32 + cap / 8) old (i + 1) (w.cells-is ∙ w.put_cell.ensures ∙ ap (λ y. set cells i (Some y)) w.to_lent.ensures) w.at-is
           (full g.row.F.Denot x bs cap (32 + cap / 8) old i cells at c.loop-c.invariant r n c.loop-c-test.true lc
-          (read_within x laws bs at r n c.loop-c.invariant.0 f) (sym c.is-marked.ensures ∙ w.if-is-marked.true) f)
-      | else-is-marked w ↦
-          turned g.row.F.Denot x bs cap (32 + cap / 8) old (i + 1) (w.cells-is ∙ w.put-cell-else-is-marked.ensures) w.at-is
-          (empty g.row.F.Denot x bs cap (32 + cap / 8) old i cells at c.loop-c.invariant c.loop-c-test.true lc (sym c.is-marked.ensures ∙ w.if-is-marked.false))
+          (read_within x laws bs at r n c.loop-c.invariant.0 f) (sym c.is_marked.ensures ∙ w.if-is_marked.true) f)
+      | else-is_marked w ↦
+          turned g.row.F.Denot x bs cap (32 + cap / 8) old (i + 1) (w.cells-is ∙ w.put_cell-else-is_marked.ensures) w.at-is
+          (empty g.row.F.Denot x bs cap (32 + cap / 8) old i cells at c.loop-c.invariant c.loop-c-test.true lc (sym c.is_marked.ensures ∙ w.if-is_marked.false))
     ]
 
 pub returns : goal.returns
 returns g c =
-    let x = kinds_of g.K.Key.kind g.row.V-Value.kind in
+    let x = kinds_of g.K.Key.kind g.V.Value.kind in
     let old = c.args.cells.now in
     let s : c.loop-c.c ≡ c.args.cap = omega arith in
     let d = done g.row.F.Denot x c.args.bytes.now c.args.cap (32 + c.args.cap / 8) old c.loop-c.c c.loop-c.cells c.loop-c.at c.loop-c.invariant s in

@@ -5,23 +5,23 @@ use Rattle.image_store.specs.Loads.{bytes_of, cells_left, store_opened}
 use Rattle.image_store.proofs.Whole.{by_bytes, by_loss}
 use Rattle.image_store.proofs.load.read_store.Goals as goal
 
-pub returns-in-err-load : goal.returns-in-err-load
-returns-in-err-load g c =
-    let x = kinds_of g.K.Key.kind g.row.V-Value.kind in
+pub returns-in_err-load : goal.returns-in_err-load
+returns-in_err-load g c =
+    let x = kinds_of g.K.Key.kind g.V.Value.kind in
     let shown = g.S.Store.shown c.args.store.now in
-    let a = by_loss x g.Fault.BlockFault.number g.Fault.BlockFault.block shown c.in-err-load.field-0.0 (length c.args.cells.now) c.from-residual.result c.clear.new.cells
-    c.in-err-load.ensures.answer (err_from_is_err_and c.from-residual.result c.from-residual.ensures.1) c.clear.ensures in
+    let a = by_loss x g.Fault.BlockFault.number g.Fault.BlockFault.block shown c.in_err-load.field-0.0 (length c.args.cells.now) c.from_residual.result c.clear.new.cells
+    c.in_err-load.ensures.answer (err_from_is_err_and c.from_residual.result c.from_residual.ensures.1) c.clear.ensures in
     record { answer = a.0; cells = a.1; work = search rules; exact = a.2 }
 
 pub returns : goal.returns
 returns g c =
-    let x = kinds_of g.K.Key.kind g.row.V-Value.kind in
+    let x = kinds_of g.K.Key.kind g.V.Value.kind in
     let shown = g.S.Store.shown c.args.store.now in
-    let loaded = c.in-ok-load.ensures.bytes in
+    let loaded = c.in_ok-load.ensures.bytes in
     let work = c.load.new.work in
     let k : 32 * c.count-end.result - 0 ≡ 32 * g.S.Store.count c.args.store.now = omega (arith, c.count-end.ensures) in
     let e : take (32 * c.count-end.result - 0) work ≡ bytes_of shown = ap (λ m. take m work) k ∙ loaded.1 in
     let n : length c.clear.new.cells ≡ length c.args.cells.now = omega arith in
     let a = by_bytes x g.Fault.BlockFault.number g.Fault.BlockFault.block shown loaded.0 loaded.2 (take (32 * c.count-end.result - 0) work) e (length c.clear.new.cells)
-    c.read-image.result c.read-image.new.cells c.read-image.ensures.answer c.read-image.ensures.cells c.read-image.ensures.exact in
+    c.read_image.result c.read_image.new.cells c.read_image.ensures.answer c.read_image.ensures.cells c.read_image.ensures.exact in
     record { answer = a.0; cells = a.1 ∙ ap (λ k. cells_left x k (store_opened x g.Fault.BlockFault.number g.Fault.BlockFault.block shown)) n; work = search rules; exact = a.2 }

@@ -18,7 +18,7 @@ loop-j-preserved g c =
     let n = length c.args.cells.now / 8 in
     let j = c.loop-j.j in
     let l = length-map-range_with_len (λ i. packed t (8 * i) 8) 0 n in
-    ap₂ (λ y b. set y (32 + j) b) c.loop-j.invariant (c.bits-of.ensures ∙ sym (get_or-map-range_with_len (λ i. packed t (8 * i) 8) 0 n j j 0 c.loop-j-test.true (omega arith)))
+    ap₂ (λ y b. set y (32 + j) b) c.loop-j.invariant (c.bits_of.ensures ∙ sym (get_or-map-range_with_len (λ i. packed t (8 * i) 8) 0 n j j 0 c.loop-j-test.true (omega arith)))
     ∙ partly_more c.args.out.now 32 (bit_map t n) (omega (arith, c.requires, l)) j (omega (arith, c.loop-j-test.true, l))
 
 pub returns : goal.returns

@@ -6,5 +6,5 @@ use Rattle.image_writer.proofs.codes.codes_len.Given as goal
 
 abbrev pub invariant-loop-i : goal.invariant-loop-i
 invariant-loop-i g l =
-    let x = kinds_of g.K.Key.kind g.row.V-Value.kind in
+    let x = kinds_of g.K.Key.kind g.V.Value.kind in
     (l.n ≡ length (codes (code_of x) (take l.i (keyed_cells x l.cells)))) × (l.n ≤ 35 * l.i)

@@ -7,6 +7,6 @@ use Rattle.image_writer.proofs.codes.put_codes.Given as goal
 
 abbrev pub invariant-loop-i : goal.invariant-loop-i
 invariant-loop-i g l =
-    let x = kinds_of g.K.Key.kind g.row.V-Value.kind in
+    let x = kinds_of g.K.Key.kind g.V.Value.kind in
     let done = codes (code_of x) (take l.i (keyed_cells x l.cells)) in
     (l.at ≡ l.from + length done) × (l.out ≡ written l.initial.out l.from done)

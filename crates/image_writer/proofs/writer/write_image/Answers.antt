@@ -10,68 +10,68 @@ use Rattle.image.proofs.Theorems.{image_laws}
 use Rattle.image_writer.proofs.Wholes.{first_length, first_keyed, length_is, same_length, all_written}
 use Rattle.image_writer.proofs.writer.write_image.Goals as goal
 
-pub put-header-requires : goal.put-header-requires
-put-header-requires g c =
-    let x = kinds_of g.K.Key.kind g.row.V-Value.kind in
+pub put_header-requires : goal.put_header-requires
+put_header-requires g c =
+    let x = kinds_of g.K.Key.kind g.V.Value.kind in
     let laws : KindsLaws x = record { key = g.met.K.Key.lawful; value = g.met.V.Value.lawful } in
     omega (arith, length_is x laws c.args.seed c.args.count c.args.cells.now c.requires.0 c.requires.1, c.requires.2, c.zero.auto.out)
 
-pub slice-bounds-put-bits-end : goal.slice-bounds-put-bits-end
-slice-bounds-put-bits-end g c =
-    let x = kinds_of g.K.Key.kind g.row.V-Value.kind in
+pub slice_bounds-put_bits-end : goal.slice_bounds-put_bits-end
+slice_bounds-put_bits-end g c =
+    let x = kinds_of g.K.Key.kind g.V.Value.kind in
     let laws : KindsLaws x = record { key = g.met.K.Key.lawful; value = g.met.V.Value.lawful } in
-    c.capacity-of-cap.ensures ∙ sym (first_length x laws c.args.seed c.args.count c.args.cells.now c.requires.0 c.requires.1 _ c.capacity-of-cap.ensures)
+    c.capacity_of-cap.ensures ∙ sym (first_length x laws c.args.seed c.args.count c.args.cells.now c.requires.0 c.requires.1 _ c.capacity_of-cap.ensures)
 
-pub put-bits-requires : goal.put-bits-requires
-put-bits-requires g c =
-    let x = kinds_of g.K.Key.kind g.row.V-Value.kind in
+pub put_bits-requires : goal.put_bits-requires
+put_bits-requires g c =
+    let x = kinds_of g.K.Key.kind g.V.Value.kind in
     let laws : KindsLaws x = record { key = g.met.K.Key.lawful; value = g.met.V.Value.lawful } in
     let seed = c.args.seed in
     let rows = c.args.cells.now in
-    let l = first_length x laws seed c.args.count rows c.requires.0 c.requires.1 _ c.capacity-of-cap.ensures in
-    omega (arith, ap (λ n. n / 8) l, length_is x laws seed c.args.count rows c.requires.0 c.requires.1, c.requires.2, c.zero.auto.out, c.put-header.auto.out)
+    let l = first_length x laws seed c.args.count rows c.requires.0 c.requires.1 _ c.capacity_of-cap.ensures in
+    omega (arith, ap (λ n. n / 8) l, length_is x laws seed c.args.count rows c.requires.0 c.requires.1, c.requires.2, c.zero.auto.out, c.put_header.auto.out)
 
-pub slice-bounds-put-codes-end : goal.slice-bounds-put-codes-end
-slice-bounds-put-codes-end g c =
-    let x = kinds_of g.K.Key.kind g.row.V-Value.kind in
+pub slice_bounds-put_codes-end : goal.slice_bounds-put_codes-end
+slice_bounds-put_codes-end g c =
+    let x = kinds_of g.K.Key.kind g.V.Value.kind in
     let laws : KindsLaws x = record { key = g.met.K.Key.lawful; value = g.met.V.Value.lawful } in
-    c.capacity-of-cap.ensures ∙ sym (first_length x laws c.args.seed c.args.count c.args.cells.now c.requires.0 c.requires.1 _ c.capacity-of-cap.ensures)
+    c.capacity_of-cap.ensures ∙ sym (first_length x laws c.args.seed c.args.count c.args.cells.now c.requires.0 c.requires.1 _ c.capacity_of-cap.ensures)
 
-pub put-codes-requires : goal.put-codes-requires
-put-codes-requires g c =
-    let x = kinds_of g.K.Key.kind g.row.V-Value.kind in
+pub put_codes-requires : goal.put_codes-requires
+put_codes-requires g c =
+    let x = kinds_of g.K.Key.kind g.V.Value.kind in
     let laws : KindsLaws x = record { key = g.met.K.Key.lawful; value = g.met.V.Value.lawful } in
     let seed = c.args.seed in
     let rows = c.args.cells.now in
-    let k = first_keyed x laws seed c.args.count rows c.requires.0 c.requires.1 _ c.capacity-of-cap.ensures in
+    let k = first_keyed x laws seed c.args.count rows c.requires.0 c.requires.1 _ c.capacity_of-cap.ensures in
     omega (
       arith,
-      ap (λ n. n / 8) c.capacity-of-cap.ensures,
+      ap (λ n. n / 8) c.capacity_of-cap.ensures,
       ap (λ y. length (codes (code_of x) y)) k,
       length_is x laws seed c.args.count rows c.requires.0 c.requires.1,
       c.requires.2,
       c.zero.auto.out,
-      c.put-header.auto.out,
-      c.put-bits.auto.out,
+      c.put_header.auto.out,
+      c.put_bits.auto.out,
     )
 
 pub returns : goal.returns
 returns g c =
-    let x = kinds_of g.K.Key.kind g.row.V-Value.kind in
+    let x = kinds_of g.K.Key.kind g.V.Value.kind in
     let laws : KindsLaws x = record { key = g.met.K.Key.lawful; value = g.met.V.Value.lawful } in
     let seed = c.args.seed in
     let count = c.args.count in
     let rows = c.args.cells.now in
     let n = length c.args.out.now in
-    let cap = c.capacity-of-cap.result in
-    let ec = c.capacity-of-cap.ensures in
-    let h : c.put-header.new.out ≡ written (replicate n 0) 0 (header x.key.number x.value.number c.power-of.result count seed) =
-    c.put-header.ensures ∙ ap (λ y. written y 0 (header x.key.number x.value.number c.power-of.result count seed)) c.zero.ensures in
-    let b = c.put-bits.ensures ∙ ap (λ y. written y 32 (bit_map (held (take cap rows)) (length (take cap rows) / 8))) h in
+    let cap = c.capacity_of-cap.result in
+    let ec = c.capacity_of-cap.ensures in
+    let h : c.put_header.new.out ≡ written (replicate n 0) 0 (header x.key.number x.value.number c.power_of.result count seed) =
+    c.put_header.ensures ∙ ap (λ y. written y 0 (header x.key.number x.value.number c.power_of.result count seed)) c.zero.ensures in
+    let b = c.put_bits.ensures ∙ ap (λ y. written y 32 (bit_map (held (take cap rows)) (length (take cap rows) / 8))) h in
     record {
       image = λ m w.
           let room : image_length x (contents seed m) ≤ n = omega (arith, c.requires.2, same_length x laws seed count rows m w c.requires.0 c.requires.1) in
-          c.put-codes.ensures ∙ ap (λ y. written y (32 + cap / 8) (codes (code_of x) (keyed_cells x (take cap rows)))) b
-          ∙ all_written x laws seed count rows m w n cap c.power-of.result ec c.power-of.ensures room;
+          c.put_codes.ensures ∙ ap (λ y. written y (32 + cap / 8) (codes (code_of x) (keyed_cells x (take cap rows)))) b
+          ∙ all_written x laws seed count rows m w n cap c.power_of.result ec c.power_of.ensures room;
       laws = image_laws ⊥ x laws;
     }

@@ -9,9 +9,9 @@ loop-i-preserved g c =
       c.write.ensures.count ∙ before.0,
       c.write.ensures.protect ∙ before.1,
       c.write.ensures.shows
-          ∙ more_written (g.S.Store.shown s) (g.S.Store.shown c.loop-i.store) c.args.bytes.now c.block-at-block.result (g.S.Store.count c.loop-i.store) c.loop-i.i
+          ∙ more_written (g.S.Store.shown s) (g.S.Store.shown c.loop-i.store) c.args.bytes.now c.block_at-block.result (g.S.Store.count c.loop-i.store) c.loop-i.i
           (g.S.Store.protected c.loop-i.store) ((g.S.Store.lengths s).of_shown ∙ sym before.0) (omega (arith, c.count-count.ensures, before.0)) (before.1 ∙ c.requires.open) before.2
-          c.block-at-block.ensures,
+          c.block_at-block.ensures,
     )
 
 pub returns : goal.returns

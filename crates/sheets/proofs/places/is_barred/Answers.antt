@@ -8,45 +8,45 @@ use Rattle.sheets.proofs.places.is_barred.Goals as goal
 
 pub way-init : goal.way-init
 way-init g c =
-    let x = kinds_of g.K.Key.kind g.row.V-Value.kind in
+    let x = kinds_of g.K.Key.kind g.V.Value.kind in
     let L = lawful_at x g.met.K.Key.lawful c.args.seed (length c.args.cells.now) (omega (arith, c.requires.within)) in
     way_start _ L c.args.cells.now c.args.key c.args.i c.requires.within c.home-j.result c.home-j.ensures
 
 pub returns-in-None : goal.returns-in-None
 returns-in-None g c =
-    let x = kinds_of g.K.Key.kind g.row.V-Value.kind in
+    let x = kinds_of g.K.Key.kind g.V.Value.kind in
     let L = lawful_at x g.met.K.Key.lawful c.args.seed (length c.args.cells.now) (omega (arith, c.requires.within)) in
     sym (way_empty _ L c.args.cells.now c.args.key c.args.i c.requires.within c.way.j c.way-test.true c.way.invariant
     (read_at c.args.cells.now c.way.j c.index-cells-j.result None c.way.invariant.0 c.index-cells-j.is c.in-None.is))
 
-pub returns-then-not-is-before : goal.returns-then-not-is-before
-returns-then-not-is-before g c =
-    let x = kinds_of g.K.Key.kind g.row.V-Value.kind in
+pub returns-then-not-is_before : goal.returns-then-not-is_before
+returns-then-not-is_before g c =
+    let x = kinds_of g.K.Key.kind g.V.Value.kind in
     let L = lawful_at x g.met.K.Key.lawful c.args.seed (length c.args.cells.now) (omega (arith, c.requires.within)) in
     sym (way_later _ L c.args.cells.now c.args.key c.args.i c.requires.within c.way.j c.way-test.true c.way.invariant c.in-Some.record
     (read_at c.args.cells.now c.way.j c.index-cells-j.result (Some c.in-Some.record) c.way.invariant.0 c.index-cells-j.is c.in-Some.is)
-    (told (λ o. (row_order x).before o c.args.key) c.from-row-found.result (x.key.key c.in-Some.record.key) false (sym c.if-not-is-before.true ∙ c.is-before.ensures) c.from-row-found.ensures))
+    (told (λ o. (row_order x).before o c.args.key) c.from_row-found.result (x.key.key c.in-Some.record.key) false (sym c.if-not-is_before.true ∙ c.is_before.ensures) c.from_row-found.ensures))
 
 pub way-smaller : goal.way-smaller
 way-smaller g c =
-    let x = kinds_of g.K.Key.kind g.row.V-Value.kind in
+    let x = kinds_of g.K.Key.kind g.V.Value.kind in
     let L = lawful_at x g.met.K.Key.lawful c.args.seed (length c.args.cells.now) (omega (arith, c.requires.within)) in
     (way_on _ L c.args.cells.now c.args.key c.args.i c.requires.within c.way.j c.way-test.true c.way.invariant c.in-Some.record
     (read_at c.args.cells.now c.way.j c.index-cells-j.result (Some c.in-Some.record) c.way.invariant.0 c.index-cells-j.is c.in-Some.is)
-    (told (λ o. (row_order x).before o c.args.key) c.from-row-found.result (x.key.key c.in-Some.record.key) true (sym c.if-not-is-before.false ∙ c.is-before.ensures) c.from-row-found.ensures)
+    (told (λ o. (row_order x).before o c.args.key) c.from_row-found.result (x.key.key c.in-Some.record.key) true (sym c.if-not-is_before.false ∙ c.is_before.ensures) c.from_row-found.ensures)
     c.step-j.result c.step-j.ensures).1
 
 pub way-preserved : goal.way-preserved
 way-preserved g c =
-    let x = kinds_of g.K.Key.kind g.row.V-Value.kind in
+    let x = kinds_of g.K.Key.kind g.V.Value.kind in
     let L = lawful_at x g.met.K.Key.lawful c.args.seed (length c.args.cells.now) (omega (arith, c.requires.within)) in
     (way_on _ L c.args.cells.now c.args.key c.args.i c.requires.within c.way.j c.way-test.true c.way.invariant c.in-Some.record
     (read_at c.args.cells.now c.way.j c.index-cells-j.result (Some c.in-Some.record) c.way.invariant.0 c.index-cells-j.is c.in-Some.is)
-    (told (λ o. (row_order x).before o c.args.key) c.from-row-found.result (x.key.key c.in-Some.record.key) true (sym c.if-not-is-before.false ∙ c.is-before.ensures) c.from-row-found.ensures)
+    (told (λ o. (row_order x).before o c.args.key) c.from_row-found.result (x.key.key c.in-Some.record.key) true (sym c.if-not-is_before.false ∙ c.is_before.ensures) c.from_row-found.ensures)
     c.step-j.result c.step-j.ensures).0
 
 pub returns : goal.returns
 returns g c =
-    let x = kinds_of g.K.Key.kind g.row.V-Value.kind in
+    let x = kinds_of g.K.Key.kind g.V.Value.kind in
     let L = lawful_at x g.met.K.Key.lawful c.args.seed (length c.args.cells.now) (omega (arith, c.requires.within)) in
     sym (way_end _ L c.args.cells.now c.args.key c.args.i c.requires.within (subst (λ (j : ℕ). Way (row_rule x c.args.seed (length c.args.cells.now)) c.args.cells.now c.args.key c.args.i j) c.way-test.false c.way.invariant))

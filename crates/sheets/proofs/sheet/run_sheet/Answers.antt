@@ -2,8 +2,8 @@ use Rattle.std.proofs.Common.{◌≡◌, ℕ, length, replicate, None, sym, refl
 use Rattle.sheets.proofs.Keying.{lengths}
 use Rattle.sheets.proofs.sheet.run_sheet.Goals as goal
 
-pub run-all-requires : goal.run-all-requires
-run-all-requires g c =
+pub run_all-requires : goal.run_all-requires
+run_all-requires g c =
     let j = c.in-None.ensures in
     let l = lengths _ _ _ _ j.1 in
     record {
@@ -17,4 +17,4 @@ pub returns-in-Some : goal.returns-in-Some
 returns-in-Some g c = (c.in-Some.ensures, refl)
 
 pub returns-in-None : goal.returns-in-None
-returns-in-None g c = (c.in-None.ensures, c.run-all.ensures)
+returns-in-None g c = (c.in-None.ensures, c.run_all.ensures)

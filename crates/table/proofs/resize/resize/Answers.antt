@@ -7,8 +7,8 @@ use Rattle.table.proofs.resize.resize.Goals as goal
 
 pub returns : goal.returns
 returns g c =
-    let x = kinds_of g.K.Key.kind g.row.V-Value.kind in
+    let x = kinds_of g.K.Key.kind g.V.Value.kind in
     record {
-      laid = c.move-all.ensures.moved ∙ c.gather-front.ensures ∙ ap (λ t. layout (row_rule x c.args.seed c.args.wanted) (records_of (row_order x) (take c.args.size c.args.cells.now)) ++ t) (empty_rest c.args.scratch.now (length c.args.cells.now) c.args.wanted c.requires.empty c.requires.alike);
-      scratch = c.move-all.ensures.empty ∙ ap (λ (n : ℕ). replicate n None) c.gather-front.auto.into ∙ sym c.requires.empty;
+      laid = c.move_all.ensures.moved ∙ c.gather_front.ensures ∙ ap (λ t. layout (row_rule x c.args.seed c.args.wanted) (records_of (row_order x) (take c.args.size c.args.cells.now)) ++ t) (empty_rest c.args.scratch.now (length c.args.cells.now) c.args.wanted c.requires.empty c.requires.alike);
+      scratch = c.move_all.ensures.empty ∙ ap (λ (n : ℕ). replicate n None) c.gather_front.auto.into ∙ sym c.requires.empty;
     }

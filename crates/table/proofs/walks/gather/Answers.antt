@@ -12,14 +12,14 @@ use Rattle.table.proofs.walks.gather.Goals as goal
 
 pub loop-i-init : goal.loop-i-init
 loop-i-init g c =
-    let x = kinds_of g.K.Key.kind g.row.V-Value.kind in
+    let x = kinds_of g.K.Key.kind g.V.Value.kind in
     let F = lawful x g.met.K.Key.lawful c.args.seed c.args.from.now c.requires.sound in
     let L = lawful_at x g.met.K.Key.lawful c.args.seed (length c.args.into.now) (omega (arith, c.requires.room)) in
     gather_start _ L c.args.from.now (sound_distinct _ F c.args.from.now c.requires.sound) c.requires.room c.args.into.now c.requires.empty
 
 pub insert-requires : goal.insert-requires
 insert-requires g c =
-    let x = kinds_of g.K.Key.kind g.row.V-Value.kind in
+    let x = kinds_of g.K.Key.kind g.V.Value.kind in
     let F = lawful x g.met.K.Key.lawful c.args.seed c.args.from.now c.requires.sound in
     let L = lawful_at x g.met.K.Key.lawful c.args.seed (length c.args.into.now) (omega (arith, c.requires.room)) in
     let apart = sound_distinct _ F c.args.from.now c.requires.sound in
@@ -32,7 +32,7 @@ insert-requires g c =
 
 pub loop-i-preserved : goal.loop-i-preserved
 loop-i-preserved g c =
-    let x = kinds_of g.K.Key.kind g.row.V-Value.kind in
+    let x = kinds_of g.K.Key.kind g.V.Value.kind in
     let F = lawful x g.met.K.Key.lawful c.args.seed c.args.from.now c.requires.sound in
     let L = lawful_at x g.met.K.Key.lawful c.args.seed (length c.args.into.now) (omega (arith, c.requires.room)) in
     let apart = sound_distinct _ F c.args.from.now c.requires.sound in
@@ -47,7 +47,7 @@ loop-i-preserved g c =
 
 pub returns : goal.returns
 returns g c =
-    let x = kinds_of g.K.Key.kind g.row.V-Value.kind in
+    let x = kinds_of g.K.Key.kind g.V.Value.kind in
     let F = lawful x g.met.K.Key.lawful c.args.seed c.args.from.now c.requires.sound in
     let L = lawful_at x g.met.K.Key.lawful c.args.seed (length c.args.into.now) (omega (arith, c.requires.room)) in
     gather_end _ L c.args.from.now (sound_distinct _ F c.args.from.now c.requires.sound) c.requires.room c.loop-i.i c.loop-i.into c.loop-i.invariant c.loop-i-test.false

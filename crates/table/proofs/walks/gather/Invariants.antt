@@ -5,4 +5,4 @@ use Rattle.table.specs.Rows.{row_rule}
 use Rattle.table.proofs.walks.gather.Given as goal
 
 abbrev pub invariant-loop-i : goal.invariant-loop-i
-invariant-loop-i g l = Gathered (row_rule (kinds_of g.K.Key.kind g.row.V-Value.kind) l.seed (length l.initial.into)) l.from l.i l.into
+invariant-loop-i g l = Gathered (row_rule (kinds_of g.K.Key.kind g.V.Value.kind) l.seed (length l.initial.into)) l.from l.i l.into

@@ -7,38 +7,38 @@ use Rattle.maps.specs.Maps.{kinds_of}
 use Rattle.table.specs.Rows.{row_key, row_order, row_rule, row_merged}
 use Rattle.table.proofs.Rules.{read_at, told_two, lawful}
 use Rattle.table.proofs.walks.insert.Given as given
-use Rattle.table.proofs.walks.insert.Goals.{then-is-before, else-is-before}
+use Rattle.table.proofs.walks.insert.Goals.{then-is_before, else-is_before}
 use Rattle.table.proofs.walks.insert.Goals as goal
 
 pub carry-init : goal.carry-init
 carry-init g c =
-    let x = kinds_of g.K.Key.kind g.row.V-Value.kind in
+    let x = kinds_of g.K.Key.kind g.V.Value.kind in
     let L = lawful x g.met.K.Key.lawful c.args.seed c.args.cells.now c.requires.sound in
     let w = carry_start _ L c.args.cells.now c.args.new c.requires.sound c.requires.absent c.home-i.result
-    (c.home-i.ensures ∙ ap (λ o. home_at (length c.args.cells.now) (hash_some (x.key.hash c.args.seed) o)) c.from-row-first.ensures) in
+    (c.home-i.ensures ∙ ap (λ o. home_at (length c.args.cells.now) (hash_some (x.key.hash c.args.seed) o)) c.from_row-first.ensures) in
     (w.inside, refl, w)
 
 pub returns-in-None : goal.returns-in-None
 returns-in-None g c =
-    let x = kinds_of g.K.Key.kind g.row.V-Value.kind in
+    let x = kinds_of g.K.Key.kind g.V.Value.kind in
     let L = lawful x g.met.K.Key.lawful c.args.seed c.args.cells.now c.requires.sound in
     carry_end _ L c.args.cells.now c.args.new c.carry.cells c.carry.carried c.carry.i c.carry.invariant.2 c.requires.sound c.requires.absent (row_merged x) (λ old new e. refl)
     (read_at c.carry.cells c.carry.i c.index-cells-i.result None c.carry.invariant.0 c.index-cells-i.is c.in-None.is)
 
 turn : (g : given.Over) (c : goal.After-step-i g)
-    → Carry (row_rule (kinds_of g.K.Key.kind g.row.V-Value.kind) c.args.seed (length c.args.cells.now)) c.args.cells.now c.args.new c.if-is-before.cells c.if-is-before.carried c.step-i.result
+    → Carry (row_rule (kinds_of g.K.Key.kind g.V.Value.kind) c.args.seed (length c.args.cells.now)) c.args.cells.now c.args.new c.if-is_before.cells c.if-is_before.carried c.step-i.result
     × (steps_left (length c.args.cells.now) (home_at (length c.args.cells.now) (hash_some (g.K.Key.kind.hash c.args.seed) (g.K.Key.kind.key c.args.new.key))) c.step-i.result
     < steps_left (length c.args.cells.now) (home_at (length c.args.cells.now) (hash_some (g.K.Key.kind.hash c.args.seed) (g.K.Key.kind.key c.args.new.key))) c.carry.i)
 turn g c =
-    let x = kinds_of g.K.Key.kind g.row.V-Value.kind in
+    let x = kinds_of g.K.Key.kind g.V.Value.kind in
     let L = lawful x g.met.K.Key.lawful c.args.seed c.args.cells.now c.requires.sound in
     let is = read_at c.carry.cells c.carry.i c.index-cells-i.result (Some c.in-Some.found) c.carry.invariant.0 c.index-cells-i.is c.in-Some.is in
-    elim c.if-is-before.branch [
-      | then-is-before w ↦ rw (w.cells-is, w.carried-is) (carry_swap _ L c.args.cells.now c.args.new c.carry.cells c.carry.carried c.carry.i c.carry.invariant.2 c.in-Some.found is
-          (told_two (row_order x).before c.from-row-ours.result (x.key.key c.carry.carried.key) c.from-row-theirs.result (x.key.key c.in-Some.found.key) true (sym w.if-is-before.true ∙ c.is-before.ensures) c.from-row-ours.ensures c.from-row-theirs.ensures)
+    elim c.if-is_before.branch [
+      | then-is_before w ↦ rw (w.cells-is, w.carried-is) (carry_swap _ L c.args.cells.now c.args.new c.carry.cells c.carry.carried c.carry.i c.carry.invariant.2 c.in-Some.found is
+          (told_two (row_order x).before c.from_row-ours.result (x.key.key c.carry.carried.key) c.from_row-theirs.result (x.key.key c.in-Some.found.key) true (sym w.if-is_before.true ∙ c.is_before.ensures) c.from_row-ours.ensures c.from_row-theirs.ensures)
           c.step-i.result c.step-i.ensures)
-      | else-is-before w ↦ rw (w.cells-is, w.carried-is) (carry_on _ L c.args.cells.now c.args.new c.carry.cells c.carry.carried c.carry.i c.carry.invariant.2 c.in-Some.found is
-          (told_two (row_order x).before c.from-row-ours.result (x.key.key c.carry.carried.key) c.from-row-theirs.result (x.key.key c.in-Some.found.key) false (sym w.if-is-before.false ∙ c.is-before.ensures) c.from-row-ours.ensures c.from-row-theirs.ensures)
+      | else-is_before w ↦ rw (w.cells-is, w.carried-is) (carry_on _ L c.args.cells.now c.args.new c.carry.cells c.carry.carried c.carry.i c.carry.invariant.2 c.in-Some.found is
+          (told_two (row_order x).before c.from_row-ours.result (x.key.key c.carry.carried.key) c.from_row-theirs.result (x.key.key c.in-Some.found.key) false (sym w.if-is_before.false ∙ c.is_before.ensures) c.from_row-ours.ensures c.from_row-theirs.ensures)
           c.step-i.result c.step-i.ensures)
     ]
 

@@ -10,7 +10,7 @@ use Rattle.table.proofs.walks.lookup.Given as goal
 abbrev pub invariant-probe : goal.invariant-probe
 invariant-probe g l =
     (l.i < length l.cells)
-    × Reach (row_rule (kinds_of g.K.Key.kind g.row.V-Value.kind) l.seed (length l.cells)) l.cells l.wanted l.i
+    × Reach (row_rule (kinds_of g.K.Key.kind g.V.Value.kind) l.seed (length l.cells)) l.cells l.wanted l.i
 
 abbrev pub decreases-probe : goal.decreases-probe
 decreases-probe g l = steps_left (length l.cells) (home_at (length l.cells) (hash_some (g.K.Key.kind.hash l.seed) l.wanted)) l.i

@@ -9,7 +9,7 @@ invariant-shift g l =
     (l.i < length l.cells)
     × (l.hole < length l.cells)
     × (length l.cells ≡ l.size)
-    × Shift (row_rule (kinds_of g.K.Key.kind g.row.V-Value.kind) l.seed l.size) l.initial.cells l.place l.cells l.hole l.i
+    × Shift (row_rule (kinds_of g.K.Key.kind g.V.Value.kind) l.seed l.size) l.initial.cells l.place l.cells l.hole l.i
 
 abbrev pub decreases-shift : goal.decreases-shift
 decreases-shift g l = steps_left l.size l.place l.i

@@ -10,7 +10,7 @@ pub returns-in-len2-up : goal.returns-in-len2-up
 returns-in-len2-up c =
     let bs = c.args.bytes.now in
     let long : 2 ≤ length bs = search rules in
-    let f = typed_front 2 (λ p. p.bits) papers papers_numbered bs c.new.result long (λ i. omega (arith, c.type-inv.bytes i))
-    (c.new.ensures ∙ c.from-be-bytes.ensures ∙ sym (two_bytes bs long)) in
+    let f = typed_front 2 (λ p. p.bits) papers papers_numbered bs c.new.result long (λ i. omega (arith, c.type_inv.bytes i))
+    (c.new.ensures ∙ c.from_be_bytes.ensures ∙ sym (two_bytes bs long)) in
     let e = ap read_answer (sym f) in
     record { answer = e; exact = reads_exactly papers_kind.code papers_kind.front 10 papers_laws.codes bs _ e }

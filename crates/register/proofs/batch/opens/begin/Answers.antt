@@ -15,11 +15,11 @@ returns-in-Ok g c =
     let d = meaning g.S.Store.count g.S.Store.protected g.S.Store.shown g.S.Store.kept in
     let cells = c.args.cells.now in
     let work = c.args.work.now in
-    let free = none_told number block c.begin-refusal.result _ c.in-default.is
-    (c.begin-refusal.ensures ∙ ap (λ n. begin_refusal n (length cells) (length work)) c.count.ensures) in
-    begun_step g.K.Key.kind g.row.V-Value.kind number block d c.args.closed cells c.read-contents.new.cells work c.read-contents.new.work
-    free c.read-contents.ensures.work c.kind-number.result c.kind-number-in-Ok.result c.capacity-of.result c.in-Ok.seed c.in-Ok.count (record { spent = false })
-    c.kind-number.ensures c.kind-number-in-Ok.ensures c.capacity-of.ensures (g.S.Store.lengths c.args.closed.store).of_shown
+    let free = none_told number block c.begin_refusal.result _ c.in-default.is
+    (c.begin_refusal.ensures ∙ ap (λ n. begin_refusal n (length cells) (length work)) c.count.ensures) in
+    begun_step g.K.Key.kind g.V.Value.kind number block d c.args.closed cells c.read_contents.new.cells work c.read_contents.new.work
+    free c.read_contents.ensures.work c.kind_number.result c.kind_number-in-Ok.result c.capacity_of.result c.in-Ok.seed c.in-Ok.count (record { spent = false })
+    c.kind_number.ensures c.kind_number-in-Ok.ensures c.capacity_of.ensures (g.S.Store.lengths c.args.closed.store).of_shown
     c.in-Ok.ensures.found
 
 pub returns-in-Err : goal.returns-in-Err
@@ -29,7 +29,7 @@ returns-in-Err g c =
     let d = meaning g.S.Store.count g.S.Store.protected g.S.Store.shown g.S.Store.kept in
     let cells = c.args.cells.now in
     let work = c.args.work.now in
-    let free = none_told number block c.begin-refusal.result _ c.in-default.is
-    (c.begin-refusal.ensures ∙ ap (λ n. begin_refusal n (length cells) (length work)) c.count.ensures) in
-    not_begun_step g.K.Key.kind g.row.V-Value.kind number block d c.args.closed cells c.read-contents.new.cells work c.read-contents.new.work
-    free c.read-contents.ensures.work c.in-Err.fault c.in-Err.ensures.found
+    let free = none_told number block c.begin_refusal.result _ c.in-default.is
+    (c.begin_refusal.ensures ∙ ap (λ n. begin_refusal n (length cells) (length work)) c.count.ensures) in
+    not_begun_step g.K.Key.kind g.V.Value.kind number block d c.args.closed cells c.read_contents.new.cells work c.read_contents.new.work
+    free c.read_contents.ensures.work c.in-Err.fault c.in-Err.ensures.found

@@ -5,6 +5,6 @@ use Rattle.register.proofs.batch.seals.seal.Goals as goal
 
 pub returns : goal.returns
 returns g c = record {
-  step = c.seal-batch.ensures;
-  lists = lists_of_calls (setup g.K.Key.kind g.row.V-Value.kind) (setup_laws g.K.Key.kind g.row.V-Value.kind g.met.K.Key.lawful g.met.V.Value.lawful);
+  step = c.seal_batch.ensures;
+  lists = lists_of_calls (setup g.K.Key.kind g.V.Value.kind) (setup_laws g.K.Key.kind g.V.Value.kind g.met.K.Key.lawful g.met.V.Value.lawful);
 }

@@ -7,37 +7,37 @@ use Rattle.register.proofs.Openings.{none_told}
 use Rattle.register.proofs.Sealed.{suffices, late_step, may_write, sealed_step}
 use Rattle.register.proofs.batch.seals.seal_batch.Goals as goal
 
-pub returns-in-Some-write-refusal : goal.returns-in-Some-write-refusal
-returns-in-Some-write-refusal g c =
+pub returns-in-Some-write_refusal : goal.returns-in-Some-write_refusal
+returns-in-Some-write_refusal g c =
     let number = g.Fault.BlockFault.number in
     let block = g.Fault.BlockFault.block in
     let d = meaning g.S.Store.count g.S.Store.protected g.S.Store.shown g.S.Store.kept in
     let o = c.args.batch in
     let n = c.count-blocks.ensures in
-    let free = none_told number block c.seal-refusal.result _ c.in-default.is
-    (c.seal-refusal.ensures ∙ ap (λ b. seal_refusal b (length c.args.cells.now) c.count-blocks.result (length c.args.work.now)) c.other-kinds-other.ensures
-    ∙ ap (λ i. seal_refusal (other_kinds (kinds_of g.K.Key.kind g.row.V-Value.kind) (batch_in o)) (length c.args.cells.now) i (length c.args.work.now)) n) in
-    let late = sym (ap (told_if number block) c.in-Some-write-refusal.is) ∙ c.write-refusal.ensures
-    ∙ ap (λ i. write_refusal c.image-len-long.result i c.protected-protected.result) n ∙ ap (write_refusal c.image-len-long.result (g.S.Store.count o.store)) c.protected-protected.ensures in
-    late_step g.K.Key.kind g.row.V-Value.kind number block d o c.args.cells.now c.args.work.now c.image-len-long.result free
-    (c.is-layout.ensures.0 c.if-not-is-layout.false) c.image-len-long.ensures c.in-Some-write-refusal.fault c.args.token late
+    let free = none_told number block c.seal_refusal.result _ c.in-default.is
+    (c.seal_refusal.ensures ∙ ap (λ b. seal_refusal b (length c.args.cells.now) c.count-blocks.result (length c.args.work.now)) c.other_kinds-other.ensures
+    ∙ ap (λ i. seal_refusal (other_kinds (kinds_of g.K.Key.kind g.V.Value.kind) (batch_in o)) (length c.args.cells.now) i (length c.args.work.now)) n) in
+    let late = sym (ap (told_if number block) c.in-Some-write_refusal.is) ∙ c.write_refusal.ensures
+    ∙ ap (λ i. write_refusal c.image_len-long.result i c.protected-protected.result) n ∙ ap (write_refusal c.image_len-long.result (g.S.Store.count o.store)) c.protected-protected.ensures in
+    late_step g.K.Key.kind g.V.Value.kind number block d o c.args.cells.now c.args.work.now c.image_len-long.result free
+    (c.is_layout.ensures.0 c.if-not-is_layout.false) c.image_len-long.ensures c.in-Some-write_refusal.fault c.args.token late
 
-pub write-contents-requires : goal.write-contents-requires
-write-contents-requires g c =
+pub write_contents-requires : goal.write_contents-requires
+write_contents-requires g c =
     let number = g.Fault.BlockFault.number in
     let block = g.Fault.BlockFault.block in
     let d = meaning g.S.Store.count g.S.Store.protected g.S.Store.shown g.S.Store.kept in
     let o = c.args.batch in
     let n = c.count-blocks.ensures in
-    let early = none_told number block c.seal-refusal.result _ c.in-default.is c.seal-refusal.ensures in
-    let free = early ∙ ap (λ b. seal_refusal b (length c.args.cells.now) c.count-blocks.result (length c.args.work.now)) c.other-kinds-other.ensures
-    ∙ ap (λ i. seal_refusal (other_kinds (kinds_of g.K.Key.kind g.row.V-Value.kind) (batch_in o)) (length c.args.cells.now) i (length c.args.work.now)) n in
-    let late = none_told number block c.write-refusal.result _ c.in-default-write-refusal.is
-    (c.write-refusal.ensures ∙ ap (λ i. write_refusal c.image-len-long.result i c.protected-protected.result) n ∙ ap (write_refusal c.image-len-long.result (g.S.Store.count o.store)) c.protected-protected.ensures) in
-    let may = may_write g.K.Key.kind g.row.V-Value.kind number block d o c.args.cells.now c.args.work.now c.image-len-long.result free
-    (c.is-layout.ensures.0 c.if-not-is-layout.false) c.image-len-long.ensures late in
-    let enough = suffices g.K.Key.kind g.row.V-Value.kind number block d o c.args.cells.now c.args.work.now c.image-len-long.result free
-    (c.is-layout.ensures.0 c.if-not-is-layout.false) c.image-len-long.ensures in
+    let early = none_told number block c.seal_refusal.result _ c.in-default.is c.seal_refusal.ensures in
+    let free = early ∙ ap (λ b. seal_refusal b (length c.args.cells.now) c.count-blocks.result (length c.args.work.now)) c.other_kinds-other.ensures
+    ∙ ap (λ i. seal_refusal (other_kinds (kinds_of g.K.Key.kind g.V.Value.kind) (batch_in o)) (length c.args.cells.now) i (length c.args.work.now)) n in
+    let late = none_told number block c.write_refusal.result _ c.in-default-write_refusal.is
+    (c.write_refusal.ensures ∙ ap (λ i. write_refusal c.image_len-long.result i c.protected-protected.result) n ∙ ap (write_refusal c.image_len-long.result (g.S.Store.count o.store)) c.protected-protected.ensures) in
+    let may = may_write g.K.Key.kind g.V.Value.kind number block d o c.args.cells.now c.args.work.now c.image_len-long.result free
+    (c.is_layout.ensures.0 c.if-not-is_layout.false) c.image_len-long.ensures late in
+    let enough = suffices g.K.Key.kind g.V.Value.kind number block d o c.args.cells.now c.args.work.now c.image_len-long.result free
+    (c.is_layout.ensures.0 c.if-not-is_layout.false) c.image_len-long.ensures in
     record { «open» = may.1; suffice = enough; room = may.0 }
 
 pub returns : goal.returns
@@ -47,12 +47,12 @@ returns g c =
     let d = meaning g.S.Store.count g.S.Store.protected g.S.Store.shown g.S.Store.kept in
     let o = c.args.batch in
     let n = c.count-blocks.ensures in
-    let free = none_told number block c.seal-refusal.result _ c.in-default.is
-    (c.seal-refusal.ensures ∙ ap (λ b. seal_refusal b (length c.args.cells.now) c.count-blocks.result (length c.args.work.now)) c.other-kinds-other.ensures
-    ∙ ap (λ i. seal_refusal (other_kinds (kinds_of g.K.Key.kind g.row.V-Value.kind) (batch_in o)) (length c.args.cells.now) i (length c.args.work.now)) n) in
-    let late = none_told number block c.write-refusal.result _ c.in-default-write-refusal.is
-    (c.write-refusal.ensures ∙ ap (λ i. write_refusal c.image-len-long.result i c.protected-protected.result) n ∙ ap (write_refusal c.image-len-long.result (g.S.Store.count o.store)) c.protected-protected.ensures) in
-    let w = c.write-contents.ensures in
-    sealed_step g.K.Key.kind g.row.V-Value.kind number block d o c.args.cells.now c.args.work.now c.image-len-long.result free
-    (c.is-layout.ensures.0 c.if-not-is-layout.false) c.image-len-long.ensures late c.write-contents.new.store c.clear.new.cells c.write-contents.new.work
+    let free = none_told number block c.seal_refusal.result _ c.in-default.is
+    (c.seal_refusal.ensures ∙ ap (λ b. seal_refusal b (length c.args.cells.now) c.count-blocks.result (length c.args.work.now)) c.other_kinds-other.ensures
+    ∙ ap (λ i. seal_refusal (other_kinds (kinds_of g.K.Key.kind g.V.Value.kind) (batch_in o)) (length c.args.cells.now) i (length c.args.work.now)) n) in
+    let late = none_told number block c.write_refusal.result _ c.in-default-write_refusal.is
+    (c.write_refusal.ensures ∙ ap (λ i. write_refusal c.image_len-long.result i c.protected-protected.result) n ∙ ap (write_refusal c.image_len-long.result (g.S.Store.count o.store)) c.protected-protected.ensures) in
+    let w = c.write_contents.ensures in
+    sealed_step g.K.Key.kind g.V.Value.kind number block d o c.args.cells.now c.args.work.now c.image_len-long.result free
+    (c.is_layout.ensures.0 c.if-not-is_layout.false) c.image_len-long.ensures late c.write_contents.new.store c.clear.new.cells c.write_contents.new.work
     w.count w.protect w.shows w.keeps c.clear.ensures w.work

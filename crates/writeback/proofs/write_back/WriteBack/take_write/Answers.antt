@@ -15,7 +15,7 @@ returns g c =
     let hs = held_list s.held in
     let i = c.args.i in
     let new : Slot = record { at = i; block = c.args.block.now } in
-    let w = c.make-way.ensures in
+    let w = c.make_way.ensures in
     record {
       count = w.count;
       protect = w.protect;

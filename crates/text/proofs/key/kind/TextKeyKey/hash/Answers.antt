@@ -4,4 +4,4 @@ use Rattle.text.specs.KeysLemmas.{key_kept}
 use Rattle.text.proofs.key.kind.TextKeyKey.hash.Goals as goal
 
 pub hash-requires : goal.hash-requires
-hash-requires c = omega (arith, ap (λ (r : TextRow). r.len) c.to-row.ensures, (key_kept c.args.self.now).few)
+hash-requires c = omega (arith, ap (λ (r : TextRow). r.len) c.to_row.ensures, (key_kept c.args.self.now).few)
