@@ -5,8 +5,8 @@ use Rattle.std.specs.declared.cmp.Ordering.{Ordering}
 use Rattle.std.proofs.Common.{sym, ap, ap₂, subst, ◌∙◌, inl, inr, arith}
 use Rattle.std.proofs.lemmas.Bool.{cases_order}
 use Rattle.std.proofs.lemmas.Bool.Decides.{nat_tests}
-use Rattle.std.specs.Cmp.Lexicographic.{Lex}
-use Rattle.std.specs.Ordering.{ordering_reverse, MatchOrdering}
+use Rattle.std.specs.Cmp.Lexicographic.{slice_cmp}
+use Rattle.std.specs.Ordering.{ordering_reverse, nat_cmp}
 use Rattle.text.specs.Lexical.{Earlier, Lexical}
 use Rattle.text.specs.Rows.{lex}
 
@@ -37,19 +37,16 @@ lex_chain (x ∷ xs) [] zs g h = let z : ◌≡◌ {A = ℕ} 0 1 = cc in absurd 
 lex_chain (x ∷ xs) (y ∷ ys) [] g h = let z : ◌≡◌ {A = ℕ} 0 1 = cc in absurd (omega arith)
 lex_chain (x ∷ xs) (y ∷ ys) (z ∷ zs) g h = let t = lex_chain xs ys zs in grind (arith, nat_tests)
 
+-- the order of two slices, as std says it
+slice_cmp_lex : (xs ys : List ℕ) → slice_cmp nat_cmp xs ys ≡ lex xs ys
+slice_cmp_lex [] [] = refl
+slice_cmp_lex [] (y ∷ ys) = refl
+slice_cmp_lex (x ∷ xs) [] = refl
+slice_cmp_lex (x ∷ xs) (y ∷ ys) = let h = slice_cmp_lex xs ys in grind (arith, nat_tests)
+
 -- what `cmp` of two slices answers
-pub lex_from_cmp : (xs ys : List ℕ) (o : Ordering) → Lex (λ (a b : ℕ) (k : Ordering). MatchOrdering k (a < b) (a ≡ b) (b < a)) xs ys o → o ≡ lex xs ys
-lex_from_cmp [] [] o h = h
-lex_from_cmp [] (y ∷ ys) o h = h
-lex_from_cmp (x ∷ xs) [] o h = h
-lex_from_cmp (x ∷ xs) (y ∷ ys) o h = step h.0 h.1 h.2 (lex_from_cmp xs ys o)
-  where
-    step : (k : Ordering) → MatchOrdering k (x < y) (x ≡ y) (y < x)
-        → MatchOrdering k (o ≡ Less) (Lex (λ (a b : ℕ) (k : Ordering). MatchOrdering k (a < b) (a ≡ b) (b < a)) xs ys o) (o ≡ Greater)
-        → (Lex (λ (a b : ℕ) (k : Ordering). MatchOrdering k (a < b) (a ≡ b) (b < a)) xs ys o → o ≡ lex xs ys) → o ≡ lex (x ∷ xs) (y ∷ ys)
-    step Less p q rest = q ∙ grind (arith, nat_tests)
-    step Equal p q rest = rest q ∙ grind (arith, nat_tests)
-    step Greater p q rest = q ∙ grind (arith, nat_tests)
+pub lex_from_cmp : (xs ys : List ℕ) (o : Ordering) → o ≡ slice_cmp nat_cmp xs ys → o ≡ lex xs ys
+lex_from_cmp xs ys o h = h ∙ slice_cmp_lex xs ys
 
 -- ---- that order in its own words
 with_front : (x : ℕ) (xs ys : List ℕ) → Earlier xs ys → Earlier (x ∷ xs) (x ∷ ys)

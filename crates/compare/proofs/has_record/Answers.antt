@@ -14,8 +14,8 @@ returns-in-Found g c =
     λ m h. value_tells x g.met.K.Key.lawful m h.lawful.ascending c.args.wanted c.in-Some.key (sym c.from_row-known.ensures ∙ c.in-Some.is) c.run_get-answer.result
     (c.run_get-answer.ensures m h (counted x g.met.K.Key.lawful c.args.seed c.args.seed c.args.count m c.args.cells.now c.requires h)) c.in-Found.value c.in-Found.is c.same_value.result c.same_value.ensures
 
-pub returns-in-default : goal.returns-in-default
-returns-in-default g c =
+pub returns-in_default : goal.returns-in_default
+returns-in_default g c =
     let x = kinds_of g.K.Key.kind g.V.Value.kind in
     λ m h. none_tells x g.met.K.Key.lawful m h.lawful.ascending c.args.wanted c.in-Some.key (sym c.from_row-known.ensures ∙ c.in-Some.is) c.run_get-answer.result
-    (c.run_get-answer.ensures m h (counted x g.met.K.Key.lawful c.args.seed c.args.seed c.args.count m c.args.cells.now c.requires h)) c.in-default.not-Found
+    (c.run_get-answer.ensures m h (counted x g.met.K.Key.lawful c.args.seed c.args.seed c.args.count m c.args.cells.now c.requires h)) c.in_default.not-Found

@@ -23,11 +23,11 @@ pub returns-in-4 : goal.returns-in-4
 returns-in-4 g c =
     c.is_wrong_count.ensures ∙ count_rule (kinds_of g.K.Key.kind g.V.Value.kind) c.args.bytes.now c.args.i _ c.byte_at-b.ensures _ _ c.count_at.ensures c.byte_at.ensures c.in-4.is
 
-pub returns-in-default : goal.returns-in-default
-returns-in-default g c = zero_rule (kinds_of g.K.Key.kind g.V.Value.kind) c.args.bytes.now c.args.i _ c.byte_at-b.ensures (omega arith) (grind (arith, nat_tests))
+pub returns-in_default : goal.returns-in_default
+returns-in_default g c = zero_rule (kinds_of g.K.Key.kind g.V.Value.kind) c.args.bytes.now c.args.i _ c.byte_at-b.ensures (omega arith) (grind (arith, nat_tests))
 
 pub returns-in-5 : goal.returns-in-5
 returns-in-5 g c = free_rule (kinds_of g.K.Key.kind g.V.Value.kind) c.args.bytes.now c.args.i _ c.byte_at-b.ensures (omega arith) (grind (arith, nat_tests))
 
-pub returns-in-5·2 : goal.returns-in-5·2
-returns-in-5·2 g c = free_rule (kinds_of g.K.Key.kind g.V.Value.kind) c.args.bytes.now c.args.i _ c.byte_at-b.ensures (omega arith) (grind (arith, nat_tests))
+pub returns-in-5-2 : goal.returns-in-5-2
+returns-in-5-2 g c = free_rule (kinds_of g.K.Key.kind g.V.Value.kind) c.args.bytes.now c.args.i _ c.byte_at-b.ensures (omega arith) (grind (arith, nat_tests))

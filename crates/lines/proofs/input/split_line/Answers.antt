@@ -14,7 +14,7 @@ pub slice_bounds-result-end : goal.slice_bounds-result-end
 slice_bounds-result-end c = omega (arith, place_within c.args.bytes.now c.in-Some.i c.in-Some.ensures)
 
 pub overflow_add-result : goal.overflow_add-result
-overflow_add-result c = omega (arith, place_within c.args.bytes.now c.in-Some.i c.in-Some.ensures, c.well-formed)
+overflow_add-result c = omega (arith, place_within c.args.bytes.now c.in-Some.i c.in-Some.ensures, c.well_formed)
 
 pub slice_bounds-result-count-in-Some : goal.slice_bounds-result-count-in-Some
 slice_bounds-result-count-in-Some c = omega (arith, place_within c.args.bytes.now c.in-Some.i c.in-Some.ensures)

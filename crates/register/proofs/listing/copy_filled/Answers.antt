@@ -29,10 +29,10 @@ loop-i-preserved g c =
       | then-is_some w ↦
           (let s = is_some_true cell (sym w.if-is_some.ensures) in
           let room = copied_within cells old c.loop-i.i c.loop-i.place c.loop-i.output cell s.0 c.loop-i-test.true c.index-cells-i.is s.1 c.requires c.loop-i.invariant in
-          simp (w.place-is, w.output_is)
+          simp (w.place-is, w.output-is)
           (copied_more cells old c.loop-i.i c.loop-i.place c.loop-i.output c.loop-i-test.true cell c.index-cells-i.is c.loop-i.invariant s.0 s.1 room))
       | else-is_some w ↦
-          simp (w.place-is, w.output_is)
+          simp (w.place-is, w.output-is)
           (copied_skip cells old c.loop-i.i c.loop-i.place c.loop-i.output c.loop-i-test.true cell c.index-cells-i.is c.loop-i.invariant (is_some_false cell (sym w.if-is_some.ensures)))
     ]
 

@@ -55,5 +55,5 @@ returns g c =
     ]) in
     record {
       cells = λ m h n. added x g.met.K.Key.lawful c.args.seed c.args.count m c.args.cells.now h n c.args.key (capacity c.args.count) refl c.capacity_of-wanted.result c.capacity_of-wanted.ensures c.requires.few c.requires.absent c.if-wanted-size.cells c.insert_front.new.cells (ready m h n) c.args.value c.to_row.result c.to_row.ensures c.insert_front.ensures;
-      scratch = elim c.if-wanted-size.branch [ then-wanted-size t ↦ t.scratch_is ∙ t.resize.ensures.scratch | else-wanted-size t ↦ t.scratch_is ];
+      scratch = elim c.if-wanted-size.branch [ then-wanted-size t ↦ t.scratch-is ∙ t.resize.ensures.scratch | else-wanted-size t ↦ t.scratch-is ];
     }

@@ -28,7 +28,7 @@ add-requires g c =
       stored = c.requires.stored;
       spare = c.requires.spare;
       empty = c.requires.empty;
-      few = c.if-count-ge-MOST-RECORDS.false;
+      few = c.if-count-ge-MOST_RECORDS.false;
       absent = subst (λ (s : ℕ). held_by x (Some c.args.key) (take s c.args.cells.now) ≡ None) c.capacity_of-size.ensures c.in-None.ensures;
     }
 
@@ -40,18 +40,18 @@ returns-in-Some g c =
       scratch = refl;
     }
 
-pub returns-then-count-ge-MOST-RECORDS : goal.returns-then-count-ge-MOST-RECORDS
-returns-then-count-ge-MOST-RECORDS g c =
+pub returns-then-count-ge-MOST_RECORDS : goal.returns-then-count-ge-MOST_RECORDS
+returns-then-count-ge-MOST_RECORDS g c =
     let x = kinds_of g.K.Key.kind g.V.Value.kind in
     record {
-      done = λ m h n. put_full x g.met.K.Key.lawful c.args.seed c.args.count m c.args.cells.now h n c.args.key c.capacity_of-size.result c.capacity_of-size.ensures c.args.value c.in-None.ensures c.if-count-ge-MOST-RECORDS.true;
+      done = λ m h n. put_full x g.met.K.Key.lawful c.args.seed c.args.count m c.args.cells.now h n c.args.key c.capacity_of-size.result c.capacity_of-size.ensures c.args.value c.in-None.ensures c.if-count-ge-MOST_RECORDS.true;
       scratch = refl;
     }
 
-pub returns-else-count-ge-MOST-RECORDS : goal.returns-else-count-ge-MOST-RECORDS
-returns-else-count-ge-MOST-RECORDS g c =
+pub returns-else-count-ge-MOST_RECORDS : goal.returns-else-count-ge-MOST_RECORDS
+returns-else-count-ge-MOST_RECORDS g c =
     let x = kinds_of g.K.Key.kind g.V.Value.kind in
     record {
-      done = λ m h n. put_adds x g.met.K.Key.lawful c.args.seed c.args.count m c.args.cells.now h n c.args.key c.capacity_of-size.result c.capacity_of-size.ensures c.args.value c.add.new.cells c.in-None.ensures c.if-count-ge-MOST-RECORDS.false (c.add.ensures.cells m h n);
+      done = λ m h n. put_adds x g.met.K.Key.lawful c.args.seed c.args.count m c.args.cells.now h n c.args.key c.capacity_of-size.result c.capacity_of-size.ensures c.args.value c.add.new.cells c.in-None.ensures c.if-count-ge-MOST_RECORDS.false (c.add.ensures.cells m h n);
       scratch = c.add.ensures.scratch;
     }

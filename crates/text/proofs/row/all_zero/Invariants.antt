@@ -4,4 +4,4 @@ use Rattle.text.specs.Rows.{is_zero}
 use Rattle.text.proofs.row.all_zero.Given as goal
 
 abbrev pub invariant-loop-byte : goal.invariant-loop-byte
-invariant-loop-byte l = list_all is_zero l.bytes ≡ list_all is_zero (drop l.byte_index l.bytes)
+invariant-loop-byte l = list_all is_zero l.bytes ≡ list_all is_zero (drop l.byte-index l.bytes)

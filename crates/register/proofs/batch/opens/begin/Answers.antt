@@ -15,7 +15,7 @@ returns-in-Ok g c =
     let d = meaning g.S.Store.count g.S.Store.protected g.S.Store.shown g.S.Store.kept in
     let cells = c.args.cells.now in
     let work = c.args.work.now in
-    let free = none_told number block c.begin_refusal.result _ c.in-default.is
+    let free = none_told number block c.begin_refusal.result _ c.in_default.is
     (c.begin_refusal.ensures ∙ ap (λ n. begin_refusal n (length cells) (length work)) c.count.ensures) in
     begun_step g.K.Key.kind g.V.Value.kind number block d c.args.closed cells c.read_contents.new.cells work c.read_contents.new.work
     free c.read_contents.ensures.work c.kind_number.result c.kind_number-in-Ok.result c.capacity_of.result c.in-Ok.seed c.in-Ok.count (record { spent = false })
@@ -29,7 +29,7 @@ returns-in-Err g c =
     let d = meaning g.S.Store.count g.S.Store.protected g.S.Store.shown g.S.Store.kept in
     let cells = c.args.cells.now in
     let work = c.args.work.now in
-    let free = none_told number block c.begin_refusal.result _ c.in-default.is
+    let free = none_told number block c.begin_refusal.result _ c.in_default.is
     (c.begin_refusal.ensures ∙ ap (λ n. begin_refusal n (length cells) (length work)) c.count.ensures) in
     not_begun_step g.K.Key.kind g.V.Value.kind number block d c.args.closed cells c.read_contents.new.cells work c.read_contents.new.work
     free c.read_contents.ensures.work c.in-Err.fault c.in-Err.ensures.found

@@ -14,7 +14,7 @@ returns-in-Some-write_refusal g c =
     let d = meaning g.S.Store.count g.S.Store.protected g.S.Store.shown g.S.Store.kept in
     let o = c.args.batch in
     let n = c.count-blocks.ensures in
-    let free = none_told number block c.seal_refusal.result _ c.in-default.is
+    let free = none_told number block c.seal_refusal.result _ c.in_default.is
     (c.seal_refusal.ensures ∙ ap (λ b. seal_refusal b (length c.args.cells.now) c.count-blocks.result (length c.args.work.now)) c.other_kinds-other.ensures
     ∙ ap (λ i. seal_refusal (other_kinds (kinds_of g.K.Key.kind g.V.Value.kind) (batch_in o)) (length c.args.cells.now) i (length c.args.work.now)) n) in
     let late = sym (ap (told_if number block) c.in-Some-write_refusal.is) ∙ c.write_refusal.ensures
@@ -29,10 +29,10 @@ write_contents-requires g c =
     let d = meaning g.S.Store.count g.S.Store.protected g.S.Store.shown g.S.Store.kept in
     let o = c.args.batch in
     let n = c.count-blocks.ensures in
-    let early = none_told number block c.seal_refusal.result _ c.in-default.is c.seal_refusal.ensures in
+    let early = none_told number block c.seal_refusal.result _ c.in_default.is c.seal_refusal.ensures in
     let free = early ∙ ap (λ b. seal_refusal b (length c.args.cells.now) c.count-blocks.result (length c.args.work.now)) c.other_kinds-other.ensures
     ∙ ap (λ i. seal_refusal (other_kinds (kinds_of g.K.Key.kind g.V.Value.kind) (batch_in o)) (length c.args.cells.now) i (length c.args.work.now)) n in
-    let late = none_told number block c.write_refusal.result _ c.in-default-write_refusal.is
+    let late = none_told number block c.write_refusal.result _ c.in_default-write_refusal.is
     (c.write_refusal.ensures ∙ ap (λ i. write_refusal c.image_len-long.result i c.protected-protected.result) n ∙ ap (write_refusal c.image_len-long.result (g.S.Store.count o.store)) c.protected-protected.ensures) in
     let may = may_write g.K.Key.kind g.V.Value.kind number block d o c.args.cells.now c.args.work.now c.image_len-long.result free
     (c.is_layout.ensures.0 c.if-not-is_layout.false) c.image_len-long.ensures late in
@@ -47,10 +47,10 @@ returns g c =
     let d = meaning g.S.Store.count g.S.Store.protected g.S.Store.shown g.S.Store.kept in
     let o = c.args.batch in
     let n = c.count-blocks.ensures in
-    let free = none_told number block c.seal_refusal.result _ c.in-default.is
+    let free = none_told number block c.seal_refusal.result _ c.in_default.is
     (c.seal_refusal.ensures ∙ ap (λ b. seal_refusal b (length c.args.cells.now) c.count-blocks.result (length c.args.work.now)) c.other_kinds-other.ensures
     ∙ ap (λ i. seal_refusal (other_kinds (kinds_of g.K.Key.kind g.V.Value.kind) (batch_in o)) (length c.args.cells.now) i (length c.args.work.now)) n) in
-    let late = none_told number block c.write_refusal.result _ c.in-default-write_refusal.is
+    let late = none_told number block c.write_refusal.result _ c.in_default-write_refusal.is
     (c.write_refusal.ensures ∙ ap (λ i. write_refusal c.image_len-long.result i c.protected-protected.result) n ∙ ap (write_refusal c.image_len-long.result (g.S.Store.count o.store)) c.protected-protected.ensures) in
     let w = c.write_contents.ensures in
     sealed_step g.K.Key.kind g.V.Value.kind number block d o c.args.cells.now c.args.work.now c.image_len-long.result free

@@ -34,13 +34,13 @@ loop-i-preserved c =
       c.loop-i.invariant.2 ∙ bad_more bs i c.loop-i-test.true (sym c.if-not-allowed.ensures),
     )
 
-pub invariant-of-result : goal.invariant-of-result
-invariant-of-result c =
+pub invariant_of-result : goal.invariant_of-result
+invariant_of-result c =
     let bs = c.args.bytes.now in
     let i = c.loop-i.i in
     let e : i ≡ length bs = omega arith in
     let none = c.loop-i.invariant.2 ∙ none_bad bs i (omega arith) in
-    (made_kept bs _ c.pack-row.result c.pack-row.ensures (turn_all bs c.loop-i.buf i e c.loop-i.invariant.1) (omega arith) (omega arith) none, tt)
+    record { kept = made_kept bs _ c.pack-row.result c.pack-row.ensures (turn_all bs c.loop-i.buf i e c.loop-i.invariant.1) (omega arith) (omega arith) none }
 
 pub returns : goal.returns
 returns c =

@@ -12,10 +12,10 @@ loop-k-preserved c =
       | else-slot-at w ↦ rw (w.slots-is, w.n-is) (search rules, passed_more record { at = 0; block = [] } c.loop-k.invariant.1 (search rules) (search rules))
     ]
 
-pub invariant-of-self : goal.invariant-of-self
-invariant-of-self c =
+pub invariant_of-self : goal.invariant_of-self
+invariant_of-self c =
     let s = c.args.self.now in
-    (search rules, (search rules, (ap apart (all_kept s.len c.loop-k.invariant.1 (search rules)) ∙ apart_without c.args.at (take s.len s.slots) s.once, tt)))
+    record { wide = search rules; few = search rules; once = ap apart (all_kept s.len c.loop-k.invariant.1 (search rules)) ∙ apart_without c.args.at (take s.len s.slots) s.once }
 
 pub returns : goal.returns
 returns c = all_kept c.args.self.now.len c.loop-k.invariant.1 (search rules)

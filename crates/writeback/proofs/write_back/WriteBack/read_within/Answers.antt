@@ -12,10 +12,10 @@ pub returns-in-Ok : goal.returns-in-Ok
 returns-in-Ok g c =
     let s = c.args.self.now in
     let m = g.S.Store in
-    below_read _ (m.protected s.below) (m.shown s.below) (held_list s.held) c.args.i c.requires (m.lengths s.below).of_shown _ c.in-default.ensures c.in-Ok.ensures
+    below_read _ (m.protected s.below) (m.shown s.below) (held_list s.held) c.args.i c.requires (m.lengths s.below).of_shown _ c.in_default.ensures c.in-Ok.ensures
 
 pub returns-in-Err : goal.returns-in-Err
 returns-in-Err g c =
     let s = c.args.self.now in
     let m = g.S.Store in
-    below_fault _ (m.protected s.below) (m.shown s.below) (held_list s.held) c.args.i c.requires (m.lengths s.below).of_shown _ _ c.in-default.ensures c.in-Err.ensures
+    below_fault _ (m.protected s.below) (m.shown s.below) (held_list s.held) c.args.i c.requires (m.lengths s.below).of_shown _ _ c.in_default.ensures c.in-Err.ensures
