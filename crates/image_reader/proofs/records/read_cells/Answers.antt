@@ -4,7 +4,7 @@ use Rattle.maps.specs.Maps.{KindsLaws, kinds_of}
 use Rattle.image.specs.Opened.{Cells, front_of}
 use Rattle.image_reader.specs.Parts.{place_of, Filled}
 use Rattle.image_reader.proofs.Turns.{Turn, begin, full, empty, fault, done, turned, read_within, record_some, record_none}
-use Rattle.image_reader.proofs.records.read_cells.Goals.{then-is-marked+in-ok-found, else-is_marked}
+use Rattle.image_reader.proofs.records.read_cells.Goals.{then-is_marked+in_ok-found, else-is_marked}
 use Rattle.image_reader.proofs.records.read_cells.Goals as goal
 
 pub loop-c-init : goal.loop-c-init
@@ -50,7 +50,7 @@ loop-c-preserved g c =
     let cells = c.loop-c.cells in
     let lc : i < length cells = omega (arith, c.loop-c.auto.cells, c.requires.room) in
     elim c.if-is_marked.branch [
-      | then-is-marked+in-ok-found w ↦
+      | then-is_marked+in_ok-found w ↦
           let r = w.in_ok-found.found in
           let n = w.in_ok-found.n in
           let f = record_some at (front_of x (drop at bs)) (r, n) w.in_ok-found.ensures in
