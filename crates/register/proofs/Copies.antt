@@ -25,7 +25,7 @@ module _ {A : Type 0} where
     pub copied_skip : cell ≡ None → Copied cells old (i + 1) place output
     copied_skip e =
         let same : in_cells (take (i + 1) cells) ≡ in_cells (take i cells) = front ∙ ap (λ x. in_cells (take i cells) ++ in_cells (x ∷ [])) e ∙ nil (in_cells (take i cells)) in
-        record { place_is = c.place_is ∙ ap length (sym same); output_is = c.output-is ∙ ap (λ xs. over_first (map Some xs) old) (sym same) }
+        record { place_is = c.place_is ∙ ap length (sym same); output_is = c.output_is ∙ ap (λ xs. over_first (map Some xs) old) (sym same) }
       where
         nil : (xs : List A) → xs ++ [] ≡ xs
         nil [] = refl
@@ -41,7 +41,7 @@ module _ {A : Type 0} where
         record {
           place_is = ap (λ k. k + 1) c.place_is ∙ sym (length_push xs r) ∙ ap length (sym more);
           output_is =
-              ap₂ (λ o x. set o place x) (c.output-is ∙ ap (λ t. map Some xs ++ t) d) e
+              ap₂ (λ o x. set o place x) (c.output_is ∙ ap (λ t. map Some xs ++ t) d) e
               ∙ set_at (map Some xs) (get_or old place None) (drop (place + 1) old) (Some r) place n
               ∙ sym (append_assoc (map Some xs) (Some r ∷ []) (drop (place + 1) old))
               ∙ ap₂ (λ f k. f ++ drop k old) (sym (map-append Some xs (r ∷ []))) (sym m)
@@ -49,7 +49,7 @@ module _ {A : Type 0} where
         }
 
   pub copied_all : (cells old : List (Option A)) (i place : ℕ) (output : List (Option A)) → length cells ≤ i → Copied cells old i place output → output ≡ over_first (map Some (in_cells cells)) old
-  copied_all cells old i place output h c = c.output-is ∙ ap (λ xs. over_first (map Some (in_cells xs)) old) (take_all i cells h)
+  copied_all cells old i place output h c = c.output_is ∙ ap (λ xs. over_first (map Some (in_cells xs)) old) (take_all i cells h)
 
   -- the next place is within the output
   pub copied_within : (cells old : List (Option A)) (i place : ℕ) (output : List (Option A)) (cell : Option A) (r : A) → i < length cells → cell ≡ get_or cells i cell → cell ≡ Some r → length (in_cells cells) ≤ length old → Copied cells old i place output → place < length old

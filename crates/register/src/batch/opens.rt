@@ -38,7 +38,7 @@ pub fn start<S: Store, K: Key, V: Value>(
     seed: u32,
     cells: &mut [Option<Record<K::Row, V>>],
 ) -> Opening<S>
-    ensures { Step (setup K.Key.kind V.Value.kind) (closed_world (meaning S.Store.count S.Store.protected S.Store.shown S.Store.kept) closed cells.old) (opening_event (Call.start seed) no_piece Fault-as-BlockFault.number Fault-as-BlockFault.block (meaning S.Store.count S.Store.protected S.Store.shown S.Store.kept) result cells.new no_piece) }
+    ensures { Step (setup K.Key.kind V.Value.kind) (closed_world (meaning S.Store.count S.Store.protected S.Store.shown S.Store.kept) closed cells.old) (opening_event (Call.start seed) no_piece S.Fault.BlockFault.number S.Fault.BlockFault.block (meaning S.Store.count S.Store.protected S.Store.shown S.Store.kept) result cells.new no_piece) }
 {
     if let Some(fault) = start_refusal(closed.store.count(), cells.len()) {
         return Opening::Refused(closed, fault);
@@ -90,7 +90,7 @@ pub fn begin<S: Store, K: Key, V: Value>(
     cells: &mut [Option<Record<K::Row, V>>],
     work: &mut [u8],
 ) -> Opening<S>
-    ensures { Step (setup K.Key.kind V.Value.kind) (closed_world (meaning S.Store.count S.Store.protected S.Store.shown S.Store.kept) closed cells.old) (opening_event Call.begin (work_piece work.old) Fault-as-BlockFault.number Fault-as-BlockFault.block (meaning S.Store.count S.Store.protected S.Store.shown S.Store.kept) result cells.new (work_piece work.new)) }
+    ensures { Step (setup K.Key.kind V.Value.kind) (closed_world (meaning S.Store.count S.Store.protected S.Store.shown S.Store.kept) closed cells.old) (opening_event Call.begin (work_piece work.old) S.Fault.BlockFault.number S.Fault.BlockFault.block (meaning S.Store.count S.Store.protected S.Store.shown S.Store.kept) result cells.new (work_piece work.new)) }
 {
     if let Some(fault) = begin_refusal(closed.store.count(), cells.len(), work.len()) {
         return Opening::Refused(closed, fault);

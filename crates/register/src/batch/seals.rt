@@ -120,7 +120,7 @@ fn seal_batch<S: Store, K: Key, V: Value>(
     cells: &mut [Option<Record<K::Row, V>>],
     work: &mut [u8],
 ) -> Sealing<S>
-    ensures { Step (setup K.Key.kind V.Value.kind) (open_world (meaning S.Store.count S.Store.protected S.Store.shown S.Store.kept) batch cells.old) (seal_event Fault-as-BlockFault.number Fault-as-BlockFault.block (meaning S.Store.count S.Store.protected S.Store.shown S.Store.kept) work.old result cells.new work.new) }
+    ensures { Step (setup K.Key.kind V.Value.kind) (open_world (meaning S.Store.count S.Store.protected S.Store.shown S.Store.kept) batch cells.old) (seal_event S.Fault.BlockFault.number S.Fault.BlockFault.block (meaning S.Store.count S.Store.protected S.Store.shown S.Store.kept) work.old result cells.new work.new) }
 {
     let other = other_kinds::<S, K, V>(&batch);
     let blocks = batch.store.count();
@@ -156,7 +156,7 @@ pub fn seal<S: Store, K: Key, V: Value>(
     cells: &mut [Option<Record<K::Row, V>>],
     work: &mut [u8],
 ) -> Sealing<S>
-    ensures step { Step (setup K.Key.kind V.Value.kind) (open_world (meaning S.Store.count S.Store.protected S.Store.shown S.Store.kept) batch cells.old) (seal_event Fault-as-BlockFault.number Fault-as-BlockFault.block (meaning S.Store.count S.Store.protected S.Store.shown S.Store.kept) work.old result cells.new work.new) }
+    ensures step { Step (setup K.Key.kind V.Value.kind) (open_world (meaning S.Store.count S.Store.protected S.Store.shown S.Store.kept) batch cells.old) (seal_event S.Fault.BlockFault.number S.Fault.BlockFault.block (meaning S.Store.count S.Store.protected S.Store.shown S.Store.kept) work.old result cells.new work.new) }
     ensures lists { ListsOfCalls (setup K.Key.kind V.Value.kind) }
 {
     seal_batch::<S, K, V>(batch, token, cells, work)

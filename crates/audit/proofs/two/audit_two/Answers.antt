@@ -30,8 +30,8 @@ returns-in-Err g c =
     let other = c.args.second_cells.now in
     let work = c.args.work.now in
     let w = (setup_laws g.K.Key.kind g.V.Value.kind g.met.K.Key.lawful g.met.V.Value.lawful).written in
-    let f = told g.Fault.BlockFault-1.number g.Fault.BlockFault-1.block c.in-Err.fault in
-    let r = comparison g.Fault.BlockFault-1.number g.Fault.BlockFault-1.block g.Fault.BlockFault-2.number g.Fault.BlockFault-2.block (Err (First c.in-Err.fault))
+    let f = told g.S.Fault.BlockFault.number g.S.Fault.BlockFault.block c.in-Err.fault in
+    let r = comparison g.S.Fault.BlockFault.number g.S.Fault.BlockFault.block g.T.Fault.BlockFault.number g.T.Fault.BlockFault.block (Err (First c.in-Err.fault))
     c.examine.new.cells other c.examine.new.work in
     let both = first_refused x s t cells other work f c.examine.new.cells c.examine.new.work c.in-Err.ensures in
     record {
@@ -49,8 +49,8 @@ returns-in-Err-examine g c =
     let other = c.args.second_cells.now in
     let work = c.args.work.now in
     let w = (setup_laws g.K.Key.kind g.V.Value.kind g.met.K.Key.lawful g.met.V.Value.lawful).written in
-    let f = told g.Fault.BlockFault-2.number g.Fault.BlockFault-2.block c.in-Err-examine.fault in
-    let r = comparison g.Fault.BlockFault-1.number g.Fault.BlockFault-1.block g.Fault.BlockFault-2.number g.Fault.BlockFault-2.block (Err (Second c.in-Err-examine.fault))
+    let f = told g.T.Fault.BlockFault.number g.T.Fault.BlockFault.block c.in-Err-examine.fault in
+    let r = comparison g.S.Fault.BlockFault.number g.S.Fault.BlockFault.block g.T.Fault.BlockFault.number g.T.Fault.BlockFault.block (Err (Second c.in-Err-examine.fault))
     c.clear.new.cells c.examine-in-Ok.new.cells c.examine-in-Ok.new.work in
     let both = second_refused x s t cells other work (c.in-Ok.count, c.in-Ok.field-0-1) c.examine.new.cells c.clear.new.cells c.examine.new.work c.in-Ok.ensures
     (c.clear.ensures ∙ ap (λ n. replicate n None) c.examine.auto.cells) f c.examine-in-Ok.new.cells c.examine-in-Ok.new.work c.in-Err-examine.ensures in
@@ -69,7 +69,7 @@ returns-in-Ok-examine g c =
     let other = c.args.second_cells.now in
     let work = c.args.work.now in
     let w = (setup_laws g.K.Key.kind g.V.Value.kind g.met.K.Key.lawful g.met.V.Value.lawful).written in
-    let r = comparison g.Fault.BlockFault-1.number g.Fault.BlockFault-1.block g.Fault.BlockFault-2.number g.Fault.BlockFault-2.block (Ok c.same_map-same.result)
+    let r = comparison g.S.Fault.BlockFault.number g.S.Fault.BlockFault.block g.T.Fault.BlockFault.number g.T.Fault.BlockFault.block (Ok c.same_map-same.result)
     c.clear-in-Ok-examine.new.cells c.clear-in-Ok-examine-2.new.cells c.examine-in-Ok.new.work in
     let both = both_read x s t cells other work (c.in-Ok.count, c.in-Ok.field-0-1) c.examine.new.cells c.clear-in-Ok-examine.new.cells c.examine.new.work c.in-Ok.ensures
     (c.clear-in-Ok-examine.ensures ∙ ap (λ n. replicate n None) c.examine.auto.cells) w (c.in-Ok-examine.other_count, c.in-Ok-examine.other_seed)

@@ -6,8 +6,8 @@ use Rattle.contents.proofs.find.find_contents.Goals as goal
 
 pub returns : goal.returns
 returns g c =
-    let number = g.Fault.BlockFault.number in
-    let block = g.Fault.BlockFault.block in
+    let number = g.S.Fault.BlockFault.number in
+    let block = g.S.Fault.BlockFault.block in
     let s = meaning g.S.Store.count g.S.Store.protected g.S.Store.shown g.S.Store.kept c.args.store.now in
     let cells = c.args.cells.now in
     let work = c.args.work.now in

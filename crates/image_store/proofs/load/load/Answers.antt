@@ -8,7 +8,7 @@ returns-in_err-block g c =
     let s = c.args.store.now in
     let l : c.loop-i.i < g.S.Store.count s = omega (arith, c.loop-i-test.true, c.count-count.ensures) in
     let a = stops (g.S.Store.shown s) (g.S.Store.count s) (g.S.Store.lengths s).of_shown c.loop-i.i c.loop-i.work c.loop-i.invariant
-    g.Fault.BlockFault.number g.Fault.BlockFault.block c.in_err-block.field-0.0 c.from_residual.result l c.in_err-block.ensures
+    g.S.Fault.BlockFault.number g.S.Fault.BlockFault.block c.in_err-block.field-0.0 c.from_residual.result l c.in_err-block.ensures
     (err_from_is_err_and c.from_residual.result c.from_residual.ensures.1) in
     record { answer = a.0; bytes = a.1 }
 

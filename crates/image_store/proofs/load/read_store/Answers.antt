@@ -9,7 +9,7 @@ pub returns-in_err-load : goal.returns-in_err-load
 returns-in_err-load g c =
     let x = kinds_of g.K.Key.kind g.V.Value.kind in
     let shown = g.S.Store.shown c.args.store.now in
-    let a = by_loss x g.Fault.BlockFault.number g.Fault.BlockFault.block shown c.in_err-load.field-0.0 (length c.args.cells.now) c.from_residual.result c.clear.new.cells
+    let a = by_loss x g.S.Fault.BlockFault.number g.S.Fault.BlockFault.block shown c.in_err-load.field-0.0 (length c.args.cells.now) c.from_residual.result c.clear.new.cells
     c.in_err-load.ensures.answer (err_from_is_err_and c.from_residual.result c.from_residual.ensures.1) c.clear.ensures in
     record { answer = a.0; cells = a.1; work = search rules; exact = a.2 }
 
@@ -22,6 +22,6 @@ returns g c =
     let k : 32 * c.count-end.result - 0 ≡ 32 * g.S.Store.count c.args.store.now = omega (arith, c.count-end.ensures) in
     let e : take (32 * c.count-end.result - 0) work ≡ bytes_of shown = ap (λ m. take m work) k ∙ loaded.1 in
     let n : length c.clear.new.cells ≡ length c.args.cells.now = omega arith in
-    let a = by_bytes x g.Fault.BlockFault.number g.Fault.BlockFault.block shown loaded.0 loaded.2 (take (32 * c.count-end.result - 0) work) e (length c.clear.new.cells)
+    let a = by_bytes x g.S.Fault.BlockFault.number g.S.Fault.BlockFault.block shown loaded.0 loaded.2 (take (32 * c.count-end.result - 0) work) e (length c.clear.new.cells)
     c.read_image.result c.read_image.new.cells c.read_image.ensures.answer c.read_image.ensures.cells c.read_image.ensures.exact in
-    record { answer = a.0; cells = a.1 ∙ ap (λ k. cells_left x k (store_opened x g.Fault.BlockFault.number g.Fault.BlockFault.block shown)) n; work = search rules; exact = a.2 }
+    record { answer = a.0; cells = a.1 ∙ ap (λ k. cells_left x k (store_opened x g.S.Fault.BlockFault.number g.S.Fault.BlockFault.block shown)) n; work = search rules; exact = a.2 }

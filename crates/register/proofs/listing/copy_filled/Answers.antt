@@ -11,8 +11,8 @@ within g c =
     copied_within c.args.cells.now c.args.output.now c.loop-i.i c.loop-i.place c.loop-i.output c.index-cells-i.result s.0
     c.loop-i-test.true c.index-cells-i.is s.1 c.requires c.loop-i.invariant
 
-pub offset-bounds-output-place : goal.offset-bounds-output-place
-offset-bounds-output-place g c = let lt = within g c in search rules
+pub offset_bounds-output-place : goal.offset_bounds-output-place
+offset_bounds-output-place g c = let lt = within g c in search rules
 
 pub bounds-output-place : goal.bounds-output-place
 bounds-output-place g c = omega (arith, within g c)

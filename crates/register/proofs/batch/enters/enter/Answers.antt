@@ -6,8 +6,8 @@ use Rattle.register.proofs.batch.enters.enter.Goals as goal
 
 pub returns-in_err-count : goal.returns-in_err-count
 returns-in_err-count g c =
-    let number = g.Fault.BlockFault.number in
-    let block = g.Fault.BlockFault.block in
+    let number = g.S.Fault.BlockFault.number in
+    let block = g.S.Fault.BlockFault.block in
     let d = meaning g.S.Store.count g.S.Store.protected g.S.Store.shown g.S.Store.kept in
     let p = err_from_is_err_and c.from_residual.result c.from_residual.ensures.1 in
     let own = sym c.other_kinds.ensures ∙ c.if-other_kinds.false in
@@ -17,8 +17,8 @@ returns-in_err-count g c =
 
 pub returns : goal.returns
 returns g c =
-    let number = g.Fault.BlockFault.number in
-    let block = g.Fault.BlockFault.block in
+    let number = g.S.Fault.BlockFault.number in
+    let block = g.S.Fault.BlockFault.block in
     let d = meaning g.S.Store.count g.S.Store.protected g.S.Store.shown g.S.Store.kept in
     let own = sym c.other_kinds.ensures ∙ c.if-other_kinds.false in
     entered_step g.K.Key.kind g.V.Value.kind number block d c.args.batch.now c.args.cells.now c.args.scratch.now c.args.sheet.now c.args.answers.now own

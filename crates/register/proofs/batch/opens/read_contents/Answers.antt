@@ -8,8 +8,8 @@ use Rattle.register.proofs.batch.opens.read_contents.Goals as goal
 
 pub returns-in_err-found : goal.returns-in_err-found
 returns-in_err-found g c =
-    let number = g.Fault.BlockFault.number in
-    let block = g.Fault.BlockFault.block in
+    let number = g.S.Fault.BlockFault.number in
+    let block = g.S.Fault.BlockFault.block in
     let shown = g.S.Store.shown c.args.store.now in
     let told = c.in_err-found.ensures in
     let p = err_from_is_err_and c.from_residual.result c.from_residual.ensures.1 in

@@ -6,8 +6,8 @@ use Rattle.register.proofs.batch.opens.start.Goals as goal
 
 pub returns : goal.returns
 returns g c =
-    let number = g.Fault.BlockFault.number in
-    let block = g.Fault.BlockFault.block in
+    let number = g.S.Fault.BlockFault.number in
+    let block = g.S.Fault.BlockFault.block in
     let d = meaning g.S.Store.count g.S.Store.protected g.S.Store.shown g.S.Store.kept in
     let free = none_told number block c.start_refusal.result _ c.in_default.is
     (c.start_refusal.ensures ∙ ap (λ n. start_refusal n (length c.args.cells.now)) c.count.ensures) in

@@ -9,8 +9,8 @@ use Rattle.register.proofs.batch.seals.seal_batch.Goals as goal
 
 pub returns-in-Some-write_refusal : goal.returns-in-Some-write_refusal
 returns-in-Some-write_refusal g c =
-    let number = g.Fault.BlockFault.number in
-    let block = g.Fault.BlockFault.block in
+    let number = g.S.Fault.BlockFault.number in
+    let block = g.S.Fault.BlockFault.block in
     let d = meaning g.S.Store.count g.S.Store.protected g.S.Store.shown g.S.Store.kept in
     let o = c.args.batch in
     let n = c.count-blocks.ensures in
@@ -24,8 +24,8 @@ returns-in-Some-write_refusal g c =
 
 pub write_contents-requires : goal.write_contents-requires
 write_contents-requires g c =
-    let number = g.Fault.BlockFault.number in
-    let block = g.Fault.BlockFault.block in
+    let number = g.S.Fault.BlockFault.number in
+    let block = g.S.Fault.BlockFault.block in
     let d = meaning g.S.Store.count g.S.Store.protected g.S.Store.shown g.S.Store.kept in
     let o = c.args.batch in
     let n = c.count-blocks.ensures in
@@ -42,8 +42,8 @@ write_contents-requires g c =
 
 pub returns : goal.returns
 returns g c =
-    let number = g.Fault.BlockFault.number in
-    let block = g.Fault.BlockFault.block in
+    let number = g.S.Fault.BlockFault.number in
+    let block = g.S.Fault.BlockFault.block in
     let d = meaning g.S.Store.count g.S.Store.protected g.S.Store.shown g.S.Store.kept in
     let o = c.args.batch in
     let n = c.count-blocks.ensures in
