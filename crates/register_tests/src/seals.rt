@@ -1,6 +1,6 @@
 use kinds::record::Record;
 use kinds::value::Value;
-use maps::Answer;
+use maps::{Answer, Command};
 use numbers::hours::Hours;
 use numbers::papers::Papers;
 use numbers::staff::StaffNumber;
@@ -21,6 +21,7 @@ fn under<S: Store, V: Value>(
     work: &mut [u8],
 ) -> (S, u8, u8) {
     let mut cells: [Option<Record<u32, Papers>>; 1024] = [None; 1024];
+    let sheet: [Command<u32, V>; 0] = [];
     let mut answers: [Answer<V>; 0] = [];
     match start::<S, StaffNumber, Papers>(closed, 0, &mut cells) {
         Opening::Refused(closed, _) => (closed.into_store(), 99, 99),
@@ -29,7 +30,7 @@ fn under<S: Store, V: Value>(
                 &mut batch,
                 other,
                 scratch,
-                &[],
+                &sheet,
                 &mut answers,
             ) {
                 Ok(()) => 0,
