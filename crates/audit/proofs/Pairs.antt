@@ -1,10 +1,10 @@
 -- What an audit of two stores rests on, over plain values.
-use Rattle.std.proofs.Common.{◌≡◌, ℕ, Bool, true, false, List, [], length, replicate, Some, None, Ok, Err, Option, Result, sym, refl, ap, ◌∙◌, subst, inl, inr, arith}
+use Rattle.std.proofs.Common.{◌≡◌, ℕ, Bool, true, false, List, length, replicate, Some, None, Ok, Err, Option, Result, sym, refl, ap, ◌∙◌, subst, inl, inr, arith}
 use lib.ListN.{length-replicate}
 use Rattle.compare.specs.Compare.{Compares}
 use Rattle.contents.specs.Finds.{Reading, Tried, not_tried}
 use Rattle.kinds.specs.declared.record.Record.{Record}
-use Rattle.maps.specs.Maps.{Contents, contents, laid, Laid}
+use Rattle.maps.specs.Maps.{Contents, Laid}
 use Rattle.model.specs.Faults.{Fault}
 use Rattle.model.specs.Refusals.{begin_refusal}
 use Rattle.model.specs.Setups.{Setup, Shows, Written}
@@ -13,8 +13,8 @@ use Rattle.model.specs.Worlds.{Store}
 use Rattle.model.proofs.Refusals.{moved}
 use Rattle.table.specs.Runs.{Stores}
 use Rattle.audit.specs.Audits.{Audits, Examines, audited, examined}
-use Rattle.audit.specs.Pairs.{SideFault, at_side, Comparison, SameMaps, BothTold, FirstTold, AuditsTwo, Room, OneMap, YesExactly, EqualImages}
-use Rattle.audit.proofs.Readings.{clear, audits}
+use Rattle.audit.specs.Pairs.{SideFault, at_side, Comparison, BothTold, FirstTold, AuditsTwo, Room, OneMap, YesExactly, EqualImages}
+use Rattle.audit.proofs.Readings.{audits}
 
 -- an answer that is given is no refusal
 not_both : {A E B : Type 0} (a : A) (e : E) → ◌≡◌ {A = Result A E} (Ok a) (Err e) → B

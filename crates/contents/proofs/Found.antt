@@ -1,5 +1,5 @@
 -- What a reading rests on: the store as it is read, in the words of the plain machine.
-use Rattle.std.proofs.Common.{◌≡◌, ℕ, zero, suc, ◌+◌, ◌-◌, ◌*◌, ◌≤◌, Bool, true, false, cond, List, [], ◌∷◌, ◌++◌, length, get_or, take, drop, replicate, Some, None, Ok, Err, Option, Result, sym, refl, ap, ◌∙◌, subst, inl, inr, arith, length-append}
+use Rattle.std.proofs.Common.{◌≡◌, ℕ, suc, ◌+◌, ◌-◌, ◌*◌, ◌≤◌, Bool, cond, List, [], ◌∷◌, ◌++◌, length, take, drop, replicate, Some, None, Ok, Err, Option, Result, sym, refl, ap, ◌∙◌, subst, inl, inr, arith, length-append}
 use Rattle.image.specs.Faults.{fault_number, fault_place}
 use Rattle.image.specs.Image.{image, image_length, body}
 use Rattle.image.specs.Opened.{opened}
@@ -23,7 +23,7 @@ use Rattle.contents.specs.Readings.{FoundIn}
 use Rattle.contents.specs.Setups.{image_bytes, setup}
 use Rattle.contents.specs.declared.fault.RegisterFault.{RegisterFault}
 use Rattle.contents.specs.declared.fault.RegisterFault.TheVariants.{Image}
-use Rattle.contents.proofs.Retold.{lift, lifted, same_number, same_place, opened_lifts}
+use Rattle.contents.proofs.Retold.{lift, same_number, same_place, opened_lifts}
 
 -- the bytes of a store, and its lowest unreadable block, are said twice
 same_bytes : (ps : List Place) → bytes_of ps ≡ Blocks.bytes_of ps

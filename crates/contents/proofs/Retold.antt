@@ -1,5 +1,5 @@
 -- A fault found in bytes is told alike whatever store the bytes came from.
-use Rattle.std.proofs.Common.{◌≡◌, ℕ, zero, suc, ◌+◌, ◌-◌, ◌/◌, Bool, true, false, cond, ◌&&◌, eqb, leb, List, [], ◌∷◌, ◌++◌, length, drop, Some, None, Ok, Err, Option, Result, sym, refl, ap, ◌∙◌}
+use Rattle.std.proofs.Common.{◌≡◌, ℕ, zero, suc, ◌+◌, ◌-◌, ◌/◌, Bool, true, false, cond, ◌&&◌, eqb, leb, List, [], ◌∷◌, length, drop, Some, None, Ok, Err, Option, Result, refl, ap, ◌∙◌}
 use Rattle.image.specs.Faults.{fault_number, fault_place}
 use Rattle.image.specs.Bits.{ones}
 use Rattle.image.specs.Opened.{count_of, seed_of, capacity_of, marked, unless, then, breaks, header_check, bits_check, Cells, onto, reading, walk, front_of, cells_in, layout_check, not_zero, tail_check, opened}

@@ -1,5 +1,5 @@
 -- every image is opened, to what it is of
-use Rattle.std.proofs.Common.{◌≡◌, ℕ, ◌+◌, ◌-◌, ◌*◌, ◌/◌, ◌^◌, ◌<◌, ◌≤◌, cond, not, eqb, List, ◌++◌, length, get_or, replicate, Ok, Err, Option, Result, sym, refl, ap, ◌∙◌, ap₂, append_assoc, arith, length-append}
+use Rattle.std.proofs.Common.{◌≡◌, ℕ, ◌+◌, ◌-◌, ◌*◌, ◌/◌, ◌<◌, ◌≤◌, cond, not, eqb, List, ◌++◌, length, replicate, Ok, Err, Option, sym, refl, ap, ◌∙◌, ap₂, append_assoc, arith, length-append}
 use lib.ListN.{length-replicate, get_or-replicate}
 use Rattle.std.proofs.lemmas.Bool.{and_from, le-leb, eq-eqb}
 use Rattle.std.proofs.lemmas.List.{get_or-append_right, drop-drop, drop_at}
@@ -9,7 +9,6 @@ use Rattle.layout.specs.Capacity.{power, capacity}
 use Rattle.layout.proofs.Capacities.{power_law}
 use Rattle.layout.proofs.Tests.{all_lowest}
 use Rattle.maps.specs.Maps.{Kinds, KindsLaws, Contents, contents, Lawful, cells_of}
-use Rattle.image.specs.declared.fault.ImageFault.{ImageFault}
 use Rattle.image.specs.declared.fault.ImageFault.TheVariants.{Header, Bits, Layout, Tail}
 use Rattle.image.specs.Bits.{ones, packed, bit_map}
 use Rattle.image.specs.Image.{header, held, codes, code_of, body, image, image_length}

@@ -1,8 +1,7 @@
 -- the order of a lawful kind's keys is strict and total
-use Rattle.std.proofs.Common.{◌≡◌, ℕ, true, false, Ordering, Less, Equal, Greater, sym, refl, ap, ◌∙◌, arith}
+use Rattle.std.proofs.Common.{◌≡◌, true, false, Ordering, Less, Equal, Greater, sym, refl, ap, ◌∙◌}
 use Rattle.std.proofs.lemmas.Bool.{both_ways}
 use Rattle.std.specs.Ordering.{is_lt, ordering_reverse}
-use Rattle.kinds.specs.Kinds.{OrderLaws}
 use Rattle.layout.specs.Orders.{Ordered}
 use Rattle.maps.specs.Maps.{Kinds, KindsLaws, record_order}
 

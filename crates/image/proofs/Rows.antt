@@ -1,5 +1,5 @@
 -- lent cells: rows of keys are read back as those keys
-use Rattle.std.proofs.Common.{◌≡◌, ℕ, zero, suc, Bool, List, [], ◌∷◌, map, is_some, Some, None, Option, sym, refl, ap, ◌∙◌, ap₂}
+use Rattle.std.proofs.Common.{◌≡◌, ℕ, zero, suc, List, [], ◌∷◌, map, is_some, Some, None, Option, sym, refl, ap, ◌∙◌, ap₂}
 use mathlib.Core.Path.{fun_ext}
 use Rattle.kinds.specs.declared.record.Record.{Record}
 use Rattle.layout.specs.Cells.{at}

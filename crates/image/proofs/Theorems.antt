@@ -1,11 +1,11 @@
 -- the laws of images, all of them
-use Rattle.std.proofs.Common.{◌≡◌, ◌-◌, replicate, sym, ap, ◌∙◌}
+use Rattle.std.proofs.Common.{replicate, sym, ap, ◌∙◌}
 use Rattle.image.specs.Image.{image, body}
 use Rattle.maps.specs.Maps.{Kinds, KindsLaws}
 use Rattle.image.specs.Laws.{ImageLaws}
 use Rattle.image.specs.Opened.{opened}
 use Rattle.image.proofs.Chains.{ok_same}
-use Rattle.image.proofs.Bodies.{AreBytes, bytes_append, bytes_zero, bytes_body, body_length, longest}
+use Rattle.image.proofs.Bodies.{bytes_append, bytes_zero, bytes_body, body_length, longest}
 use Rattle.image.proofs.Opens.{image_size, opens}
 use Rattle.image.proofs.Only.{only}
 

@@ -1,10 +1,10 @@
 -- the checks one after the other: at each, what its fault makes of the whole, and what is known past it
-use Rattle.std.proofs.Common.{◌≡◌, ℕ, ◌+◌, ◌/◌, ◌^◌, ◌<◌, ◌≤◌, false, List, ◌++◌, map, length, get_or, take, drop, Ok, Err, Option, Result, sym, refl, ap, ◌∙◌, subst, ap₂, arith}
+use Rattle.std.proofs.Common.{◌≡◌, ℕ, ◌+◌, ◌/◌, ◌^◌, ◌<◌, ◌≤◌, false, List, ◌++◌, map, length, get_or, take, drop, Ok, Err, Option, Result, sym, ap, ◌∙◌, subst, ap₂, arith}
 use native.Mathlib.Nat.{pow-le-pow_right}
 use Rattle.std.proofs.lemmas.List.{take_at, length-map}
 use Rattle.std.proofs.lemmas.Bool.{and_parts, leb-true}
 use Rattle.kinds.specs.declared.record.Record.{Record as Rec}
-use Rattle.layout.specs.Capacity.{power, capacity}
+use Rattle.layout.specs.Capacity.{capacity}
 use Rattle.layout.specs.Cells.{records_of}
 use Rattle.layout.specs.Views.{seen}
 use Rattle.layout.proofs.Capacities.{power_law}
@@ -13,7 +13,7 @@ use Rattle.maps.specs.Maps.{Kinds, KindsLaws, Contents, contents, record_order, 
 use Rattle.image.specs.declared.fault.ImageFault.{ImageFault}
 use Rattle.image.specs.declared.fault.ImageFault.TheVariants.{Header, Bits}
 use Rattle.image.specs.Image.{code_of}
-use Rattle.image.specs.Opened.{byte, count_of, seed_of, capacity_of, Cells, then, breaks, header_check, bits_check, front_of, cells_in, layout_check, tail_check, opened}
+use Rattle.image.specs.Opened.{byte, count_of, seed_of, capacity_of, Cells, breaks, header_check, bits_check, front_of, cells_in, layout_check, tail_check, opened}
 use Rattle.image.specs.Rows.{keyed_cells}
 use Rattle.image.proofs.Bodies.{code_laws}
 use Rattle.image.proofs.Chains.{then_at, unless_ok, cond_ok}

@@ -7,7 +7,7 @@ use Rattle.image.specs.declared.fault.ImageFault.{ImageFault}
 use Rattle.image.specs.Faults.{fault_number, fault_place}
 use Rattle.image.specs.Opened.{opened}
 use Rattle.image_reader.specs.Reads.{seed_and_count, cells_after, ReadsImage}
-use Rattle.store.specs.Answers.{Answer, given, refused, told}
+use Rattle.store.specs.Answers.{Answer, given, told}
 use Rattle.store.specs.Places.{Place}
 use Rattle.image_store.specs.Loads.{bytes_of, first_lost, unless_lost, load_answer, Whole, store_opened, seed_and_count_told, cells_left, ReadsStore}
 

@@ -5,7 +5,6 @@ use Rattle.layout.specs.Tests.{lowest}
 use Rattle.maps.specs.Maps.{Kinds, Contents, contents, Lawful, laid, Laid}
 use Rattle.store.specs.Answers.{Answer, given, refused, told, unreadable}
 use Rattle.store.specs.Places.{Place}
-use Rattle.image.specs.declared.fault.ImageFault.{ImageFault}
 use Rattle.image.specs.Faults.{fault_number, fault_place}
 use Rattle.image.specs.Image.{image}
 use Rattle.image.specs.Opened.{opened}

@@ -1,7 +1,6 @@
 -- 1 with papers 3 and 9 with papers 4, under seed 0, in a store of two blocks
 use Rattle.std.specs.Prelude.{◌≡◌, ℕ, List, [], ◌∷◌, ◌++◌, take, replicate, Err, slice_set}
 use Rattle.std.proofs.Common.{lit<}
-use Rattle.kinds.specs.declared.record.Record.{Record as Rec}
 use Rattle.maps.specs.Maps.{Kinds, Contents, contents, kinds_of}
 use Rattle.numbers.specs.Papers.{papers, papers_kind}
 use Rattle.numbers.specs.Staff.{staff, staff_kind}

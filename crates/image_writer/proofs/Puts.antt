@@ -1,16 +1,15 @@
 -- one write after another
-use Rattle.std.proofs.Common.{◌≡◌, ℕ, suc, ◌+◌, ◌-◌, ◌*◌, ◌^◌, ◌<◌, ◌≤◌, Bool, true, List, [], ◌∷◌, ◌++◌, length, get_or, take, drop, replicate, is_some, Some, None, Ok, Err, Option, Result, sym, refl, ap, ◌∙◌, ap₂, append_assoc, arith, length-append, length-drop, length-take}
+use Rattle.std.proofs.Common.{◌≡◌, ℕ, suc, ◌+◌, ◌-◌, ◌*◌, ◌^◌, ◌<◌, ◌≤◌, Bool, List, [], ◌∷◌, ◌++◌, length, get_or, take, drop, replicate, Some, None, Ok, Err, Option, Result, sym, refl, ap, ◌∙◌, ap₂, append_assoc, arith, length-append, length-take}
 use native.Mathlib.Nat.{pow-le-pow_right}
 use lib.ListN.{length-replicate}
 use Rattle.std.proofs.lemmas.Bool.{le-leb, cond-true}
 use Rattle.std.proofs.lemmas.List.{take_at, drop_at, drop-drop, drop-replicate, take_more, take-append-drop, append-nil, get_or_read, take_all}
 use Rattle.kinds.specs.Records.{written, has_room, write_answer, after_write}
 use Rattle.kinds.specs.declared.code.NoRoom.{NoRoom}
-use Rattle.kinds.specs.declared.record.Record.{Record}
 use Rattle.kinds.proofs.Writing.{partly}
 use Rattle.image.specs.Bits.{one, packed}
-use Rattle.image.specs.Image.{held, codes}
-use Rattle.image.proofs.Packs.{one_le, packed_lt}
+use Rattle.image.specs.Image.{codes}
+use Rattle.image.proofs.Packs.{packed_lt}
 
 -- what was read from a list
 pub read_is : {X : Type 0} (xs : List (Option X)) (i : ℕ) (o p : Option X) → i < length xs → o ≡ get_or xs i o → o ≡ p → get_or xs i None ≡ p

@@ -1,5 +1,5 @@
 -- from lent cells that are a layout to the image of the map
-use Rattle.std.proofs.Common.{◌≡◌, ℕ, zero, suc, ◌+◌, ◌-◌, ◌*◌, ◌/◌, ◌<◌, ◌≤◌, List, [], ◌∷◌, ◌++◌, map, length, take, replicate, Some, None, Option, sym, refl, ap, ◌∙◌, subst, ap₂, arith, length-append}
+use Rattle.std.proofs.Common.{◌≡◌, ℕ, zero, suc, ◌+◌, ◌-◌, ◌*◌, ◌/◌, ◌≤◌, List, [], ◌∷◌, ◌++◌, map, length, take, replicate, None, Option, sym, refl, ap, ◌∙◌, ap₂, arith, length-append}
 use lib.ListN.{length-replicate}
 use Rattle.std.proofs.lemmas.List.FromFn.{length-map-range_with_len}
 use Rattle.std.proofs.lemmas.List.{take_at, length-map, map-append, append-nil}
@@ -8,7 +8,7 @@ use Rattle.kinds.specs.declared.record.Record.{Record}
 use Rattle.layout.specs.Capacity.{power, capacity}
 use Rattle.layout.specs.Views.{seen}
 use Rattle.layout.proofs.Capacities.{capacity_range}
-use Rattle.maps.specs.Maps.{Kinds, KindsLaws, contents, lent, cells_of, laid, Laid}
+use Rattle.maps.specs.Maps.{Kinds, KindsLaws, contents, lent, cells_of, laid}
 use Rattle.image.specs.Bits.{packed, bit_map}
 use Rattle.image.specs.Image.{header, held, codes, code_of, body, image, image_length}
 use Rattle.image.specs.Rows.{keyed, keyed_cells}

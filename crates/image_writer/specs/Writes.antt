@@ -1,7 +1,7 @@
 -- what the writer is given and leaves
 use Rattle.std.specs.Prelude.{◌≡◌, ℕ, ◌≤◌, List, length, Option}
 use Rattle.kinds.specs.declared.record.Record.{Record}
-use Rattle.maps.specs.Maps.{Kinds, Contents, contents, Laid}
+use Rattle.maps.specs.Maps.{Kinds, contents, Laid}
 use Rattle.image.specs.Image.{image, image_length}
 
 module _ {K Row V : Type 0} (x : Kinds K Row V) where

@@ -1,5 +1,5 @@
 -- Codes: the bytes by which an image writes a key or a value.
-use Rattle.std.specs.Prelude.{◌≡◌, ℕ, ◌<◌, ◌≤◌, List, ◌++◌, length, drop, Some, None, Ok, Err, Option, Result, slice_index}
+use Rattle.std.specs.Prelude.{◌≡◌, ℕ, ◌<◌, ◌≤◌, List, ◌++◌, length, drop, Some, Ok, Err, Option, Result, slice_index}
 
 -- Every code has 1 to `most` bytes. `front` tells which code stands at the front of some bytes, and how long it is: it reads each code back,
 -- whatever follows, and what it reads is a code. No code is the beginning of another's, so equal codes are of equal things.

@@ -1,5 +1,5 @@
 -- A mirror's answers from those of its halves.
-use Rattle.std.proofs.Common.{◌≡◌, ℕ, ◌<◌, min, cond, ◌≢◌, List, length, get_or, set, Some, None, Ok, Err, Result, sym, refl, ap, ◌∙◌, arith}
+use Rattle.std.proofs.Common.{◌≡◌, ℕ, ◌<◌, min, cond, List, length, get_or, set, Some, None, Ok, Err, Result, sym, refl, ap, ◌∙◌, arith}
 use Rattle.std.proofs.lemmas.Slice.Eq.{bytes_eq-Decides}
 use Rattle.std.proofs.lemmas.List.{get_or-set_same, get_or-set_other}
 use Rattle.store.specs.Places.{Place}

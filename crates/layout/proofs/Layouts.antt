@@ -7,7 +7,7 @@ use Rattle.layout.specs.Places.{AllInPlace, Sound}
 use Rattle.layout.specs.Theorems.{LayoutLaws, IsLayout, MapLayoutLaws}
 use Rattle.layout.proofs.Capacities.{capacity_range, capacity_room, hashed_lawful}
 use Rattle.layout.proofs.Unique.{unique}
-use Rattle.layout.proofs.Laid.{Stands, place_at, placed, laid, is_layout}
+use Rattle.layout.proofs.Laid.{Stands, place_at, laid, is_layout}
 use Rattle.layout.proofs.Records.{Distinct, records_ascending, records_le, records_count, distinct, records_held, layout_iff, records_layout}
 use Rattle.layout.proofs.Places.{in_place_iff, first_out_none, first_out_some}
 

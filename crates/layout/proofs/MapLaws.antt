@@ -2,7 +2,6 @@
 use Rattle.std.proofs.Common.{◌≡◌, suc, ◌+◌, ◌≢◌, ◌↔◌, List, [], ◌∷◌, length, Some, None, Option, sym, refl, ap, ◌∙◌, inl, inr, arith}
 use Rattle.layout.specs.Orders.{Order, Ordered, In, Precedes, Ascending, Absent}
 use Rattle.layout.specs.Map.{put, without, get, joined, Keeps}
-use Rattle.layout.specs.Cells.{at}
 use Rattle.layout.specs.Theorems.{MapLaws}
 use Rattle.layout.proofs.Orders.{all_in, irrefl, asym, three, less, more, same}
 use Rattle.layout.proofs.Tests.{some_none}

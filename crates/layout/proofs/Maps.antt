@@ -3,7 +3,6 @@ use Rattle.std.proofs.Common.{◌≡◌, ℕ, ◌+◌, ◌≤◌, true, false, �
 use Rattle.std.proofs.lemmas.Bool.{cond-true}
 use Rattle.layout.specs.Orders.{Order, Ordered, In, All, Precedes, Ascending, Absent}
 use Rattle.layout.specs.Map.{put, without, get, Keeps}
-use Rattle.layout.specs.Cells.{at}
 use Rattle.layout.proofs.Orders.{all_in, all_from_in, irrefl, asym, not_before, three, less, more, same}
 
 module _ {R Key : Type 0} (O : Order R Key) (L : Ordered O) where

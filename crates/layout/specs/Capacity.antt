@@ -1,5 +1,5 @@
 -- how many cells a count of records demands, and where a hash has its home among them
-use Rattle.std.specs.Prelude.{◌≡◌, ℕ, ◌*◌, ◌/◌, ◌^◌, ◌<◌, ◌≤◌, Bool, Some, None, Option, nat_le}
+use Rattle.std.specs.Prelude.{◌≡◌, ℕ, ◌*◌, ◌/◌, ◌^◌, ◌≤◌, Bool, Some, None, Option, nat_le}
 use Rattle.layout.specs.Tests.{lowest}
 
 -- 2 ^ p cells are enough: at most three quarters of them get filled

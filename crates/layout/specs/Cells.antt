@@ -1,5 +1,5 @@
 -- the cells, numbered from 0, where 0 follows the last; and the layout of a map in them
-use Rattle.std.specs.Prelude.{◌≡◌, ℕ, zero, suc, ◌+◌, ◌-◌, ◌<◌, Bool, true, false, cond, List, [], ◌∷◌, length, replicate, is_some, Some, None, Option, ◌==◌, nat_le, slice_index_or, slice_set}
+use Rattle.std.specs.Prelude.{◌≡◌, ℕ, zero, suc, ◌+◌, ◌-◌, ◌<◌, cond, List, [], ◌∷◌, length, replicate, is_some, Some, None, Option, ◌==◌, nat_le, slice_index_or, slice_set}
 use Rattle.layout.specs.Orders.{Order, Ordered, In}
 use Rattle.layout.specs.Map.{put, newer}
 use Rattle.layout.specs.Capacity.{capacity, home_at}

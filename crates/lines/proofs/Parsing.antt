@@ -1,9 +1,9 @@
 -- A line is read as what it is.
-use Rattle.std.proofs.Common.{◌≡◌, ℕ, suc, ◌+◌, ◌-◌, ◌^◌, ◌<◌, ◌≤◌, Bool, true, false, cond, eqb, ◌⊎◌, List, [], ◌∷◌, ◌++◌, length, get_or, take, drop, Some, None, Ok, Err, decimal, Option, Result, sym, refl, ap, ◌∙◌, subst, ap₂, inl, inr, add-one, arith}
+use Rattle.std.proofs.Common.{◌≡◌, ℕ, suc, ◌+◌, ◌-◌, ◌^◌, ◌<◌, ◌≤◌, false, eqb, List, [], ◌∷◌, ◌++◌, length, get_or, take, drop, Some, None, Ok, Err, decimal, Option, Result, sym, refl, ap, ◌∙◌, subst, ap₂, inl, inr, arith}
 use Rattle.std.proofs.lemmas.List.{take_at, take_rest}
 use Rattle.std.proofs.lemmas.Bool.{cases_Bool, cond-true, cond-false, eqb-true, eq-eqb, ne_eqb}
-use Rattle.lines.specs.Input.{first_place, number_in, key_in, value_in, with_key, with_both, put_at, put_in, seal_in, line_in, or_bad}
-use Rattle.lines.specs.Laws.{Writes, Spells, Tells, written, InRange, ReadsBack}
+use Rattle.lines.specs.Input.{first_place, key_in, value_in, with_key, with_both, put_at, put_in, seal_in, line_in, or_bad}
+use Rattle.lines.specs.Laws.{Spells, Tells, ReadsBack}
 use Rattle.lines.specs.declared.input.BadLine.{BadLine}
 use Rattle.lines.specs.declared.input.Line.{Line}
 use Rattle.lines.specs.declared.input.Line.TheVariants.{Put, Drop, Get, Seal}

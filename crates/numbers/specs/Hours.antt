@@ -1,5 +1,5 @@
 -- Hours of a week: value kind 2.
-use Rattle.std.specs.Prelude.{ℕ, ◌+◌, ◌*◌, ◌/◌, ◌%◌, ◌^◌, ◌<◌, cond, List, ◌++◌, nat_lt}
+use Rattle.std.specs.Prelude.{ℕ, ◌/◌, ◌%◌, ◌^◌, ◌<◌, cond, List, ◌++◌, nat_lt}
 use Rattle.std.proofs.Common.{arith}
 use Rattle.kinds.specs.Kinds.{ValueKind}
 use Rattle.numbers.specs.Fixed.{bytes_of, fixed_front}

@@ -1,12 +1,11 @@
 -- Hours are a lawful kind of value.
-use Rattle.std.specs.Prelude.{◌≡◌, ℕ, ◌+◌, ◌*◌, ◌/◌, ◌%◌, ◌^◌, ◌<◌, ◌≤◌, max, Bool, true, false, cond, List, [], ◌∷◌, ◌++◌, length, get_or, take, refl}
-use Rattle.std.proofs.Common.{sym, ap, ap₂, subst, ◌∙◌, arith}
+use Rattle.std.specs.Prelude.{◌≡◌, ℕ, ◌+◌, ◌*◌, ◌/◌, ◌%◌, ◌^◌, ◌<◌, max, List}
+use Rattle.std.proofs.Common.{subst, arith}
 use mathlib.Core.HLevel.{is_prop→PathP}
 use Rattle.std.proofs.Math.Bridge.{le_prop}
 use Rattle.std.proofs.lemmas.Bool.Decides.{nat_tests}
-use Rattle.std.specs.Int.Digits.{number_from_digits}
 use Rattle.kinds.specs.Codes.{CodeLaws}
-use Rattle.kinds.specs.Kinds.{ValueLaws, JoinLaws}
+use Rattle.kinds.specs.Kinds.{ValueLaws}
 use Rattle.numbers.specs.Fixed.{bytes_of, fixed_front}
 use Rattle.numbers.specs.Hours.{hours, later, hours_code, hours_kind}
 use Rattle.numbers.specs.declared.hours.Hours.{Hours}

@@ -1,5 +1,5 @@
 -- What begin rests on: the store as it is read, in the words of the calls' steps.
-use Rattle.std.proofs.Common.{◌≡◌, ℕ, zero, suc, ◌+◌, ◌-◌, ◌*◌, ◌≤◌, Bool, true, false, cond, List, [], ◌∷◌, ◌++◌, length, get_or, take, drop, replicate, Some, None, Ok, Err, Option, Result, sym, refl, ap, ◌∙◌, subst, inl, inr, arith, length-append}
+use Rattle.std.proofs.Common.{◌≡◌, ℕ, suc, ◌+◌, ◌-◌, ◌*◌, ◌≤◌, Bool, cond, List, [], ◌∷◌, ◌++◌, length, take, drop, replicate, Some, None, Ok, Err, Option, Result, sym, refl, ap, ◌∙◌, subst, inl, inr, arith, length-append}
 use Rattle.image.specs.Faults.{fault_number, fault_place}
 use Rattle.image.specs.Image.{image, image_length, body}
 use Rattle.image.specs.Opened.{opened}
@@ -23,12 +23,11 @@ use Rattle.register.specs.Contents.{FoundIn}
 use Rattle.register.specs.Faults.{told as told_by}
 use Rattle.register.specs.Worlds.{image_bytes, setup, closed_world, opening_event}
 use Rattle.register.specs.declared.batch.Closed.{Closed}
-use Rattle.register.specs.declared.batch.Open.{Open}
 use Rattle.register.specs.declared.batch.Opening.TheVariants.{Opened, Refused}
 use Rattle.register.specs.declared.batch.Token.{Token}
 use Rattle.register.specs.declared.fault.RegisterFault.{RegisterFault}
 use Rattle.register.specs.declared.fault.RegisterFault.TheVariants.{Image}
-use Rattle.register.proofs.Retold.{lift, lifted, same_number, same_place, opened_lifts}
+use Rattle.register.proofs.Retold.{lift, same_number, same_place, opened_lifts}
 
 -- the bytes of a store, and its lowest unreadable block, are said twice
 same_bytes : (ps : List Place) → bytes_of ps ≡ Blocks.bytes_of ps

@@ -1,17 +1,17 @@
 -- What entering a sheet rests on, over plain values.
-use Rattle.std.proofs.Common.{◌≡◌, ℕ, Bool, true, false, cond, not, ◌&&◌, ◌||◌, List, [], ◌∷◌, ◌++◌, length, take, drop, replicate, is_some, Some, None, Ok, Err, Option, Result, sym, refl, ap, ◌∙◌, subst, ap₂, inl, inr, arith}
+use Rattle.std.proofs.Common.{◌≡◌, ℕ, Bool, true, false, not, ◌&&◌, ◌||◌, List, [], ◌∷◌, ◌++◌, length, take, drop, replicate, is_some, None, Ok, Err, Option, Result, sym, refl, ap, ◌∙◌, subst, ap₂, inl, inr, arith}
 use Rattle.std.proofs.lemmas.List.{take_at}
 use Rattle.std.proofs.lemmas.Bool.Decides.{nat_tests}
 use Rattle.kinds.specs.Kinds.{KeyKind, ValueKind}
 use Rattle.kinds.specs.declared.record.Record.{Record}
 use Rattle.layout.specs.Capacity.{capacity}
-use Rattle.maps.specs.Commands.{row_of, answers_to, map_after_sheet}
+use Rattle.maps.specs.Commands.{row_of, answers_to}
 use Rattle.maps.specs.Maps.{Kinds, kinds_of}
 use Rattle.maps.specs.declared.Answer.{Answer}
 use Rattle.maps.specs.declared.Command.{Command}
-use Rattle.model.specs.Faults.{Fault, kind_fault, lent_fault}
+use Rattle.model.specs.Faults.{kind_fault, lent_fault}
 use Rattle.model.specs.Refusals.{first, other_kinds, all_keys, wrong_lengths, enter_refusal}
-use Rattle.model.specs.Steps.{Step, LaidFor}
+use Rattle.model.specs.Steps.{Step}
 use Rattle.model.specs.Worlds.{Store, Phase, Outcome, sheet_pieces}
 use Rattle.model.proofs.Refusals.{refused_with, not_refused, same_numbers}
 use Rattle.model.proofs.Sheets.{answers_length}

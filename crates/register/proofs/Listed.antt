@@ -1,5 +1,5 @@
 -- What a list rests on, over plain values.
-use Rattle.std.proofs.Common.{◌≡◌, ℕ, ◌≤◌, Bool, true, false, List, [], map, length, take, Some, None, Ok, Err, Option, sym, refl, ap, ◌∙◌, inl, inr, arith}
+use Rattle.std.proofs.Common.{◌≡◌, ℕ, ◌≤◌, List, [], map, length, take, Some, None, Ok, Err, Option, sym, refl, ap, ◌∙◌, inl, inr, arith}
 use Rattle.kinds.specs.Kinds.{KeyKind, ValueKind, KeyLaws}
 use Rattle.kinds.specs.declared.record.Record.{Record}
 use Rattle.layout.specs.Capacity.{capacity}
@@ -11,7 +11,6 @@ use Rattle.model.proofs.Layouts.{listing_laws}
 use Rattle.model.proofs.Pieces.{listed_front}
 use Rattle.model.proofs.Refusals.{not_refused, list_taken}
 use Rattle.sheets.specs.Checks.{IsTable}
-use Rattle.register.specs.Faults.{told_if}
 use Rattle.register.specs.Sheets.{list_event}
 use Rattle.register.specs.Worlds.{setup, batch_in, open_world}
 use Rattle.register.specs.declared.batch.Open.{Open}

@@ -1,5 +1,5 @@
 -- What start and begin rest on, over plain values.
-use Rattle.std.proofs.Common.{◌≡◌, ℕ, ◌^◌, ◌<◌, List, [], length, replicate, Some, None, Option, sym, refl, ap, ◌∙◌}
+use Rattle.std.proofs.Common.{◌≡◌, ℕ, ◌^◌, ◌<◌, List, length, replicate, None, Option, sym, refl, ap, ◌∙◌}
 use Rattle.kinds.specs.Kinds.{KeyKind, ValueKind}
 use Rattle.kinds.specs.declared.record.Record.{Record}
 use Rattle.layout.specs.Capacity.{capacity, power}
@@ -11,7 +11,6 @@ use Rattle.model.proofs.Refusals.{not_refused}
 use Rattle.register.specs.Faults.{told_if}
 use Rattle.register.specs.Worlds.{setup, closed_world, opening_event}
 use Rattle.register.specs.declared.batch.Closed.{Closed}
-use Rattle.register.specs.declared.batch.Open.{Open}
 use Rattle.register.specs.declared.batch.Opening.TheVariants.{Opened}
 use Rattle.register.specs.declared.batch.Token.{Token}
 use Rattle.register.specs.declared.fault.RegisterFault.{RegisterFault}

@@ -1,5 +1,5 @@
 -- What a seal rests on, over plain values.
-use Rattle.std.proofs.Common.{◌≡◌, ℕ, ◌*◌, ◌≤◌, Bool, false, List, [], length, replicate, Some, None, Option, sym, refl, ap, ◌∙◌, inl, inr, arith}
+use Rattle.std.proofs.Common.{◌≡◌, ℕ, ◌*◌, ◌≤◌, false, List, [], length, replicate, Some, None, Option, sym, refl, ap, ◌∙◌, inl, arith}
 use Rattle.image.specs.Image.{image_length}
 use Rattle.image_writer.specs.Writes.{Holds, LongAs, HasRoom}
 use Rattle.kinds.specs.Kinds.{KeyKind, ValueKind}
@@ -13,7 +13,6 @@ use Rattle.sheets.specs.Checks.{IsTable}
 use Rattle.register.specs.Faults.{told}
 use Rattle.register.specs.Seals.{ShowsImage, seal_event}
 use Rattle.register.specs.Worlds.{setup, batch_in, open_world}
-use Rattle.register.specs.declared.batch.Closed.{Closed}
 use Rattle.register.specs.declared.batch.Open.{Open}
 use Rattle.register.specs.declared.batch.Sealing.TheVariants.{Sealed, Refused}
 use Rattle.register.specs.declared.batch.Token.{Token}

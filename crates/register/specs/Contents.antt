@@ -1,8 +1,8 @@
 -- What is read of a store's image.
-use Rattle.std.specs.Prelude.{◌≡◌, ℕ, List, length, replicate, None, Ok, Err, Option, Result}
+use Rattle.std.specs.Prelude.{◌≡◌, ℕ, List, replicate, None, Ok, Err, Option, Result}
 use Rattle.image_store.specs.Loads.{store_opened, ReadsStore}
 use Rattle.kinds.specs.declared.record.Record.{Record}
-use Rattle.maps.specs.Maps.{Kinds, Contents}
+use Rattle.maps.specs.Maps.{Kinds}
 use Rattle.store.specs.Answers.{refused}
 use Rattle.store.specs.Places.{Place}
 use Rattle.register.specs.Faults.{told}

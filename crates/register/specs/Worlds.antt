@@ -1,5 +1,5 @@
 -- What the register's own types say, in the words of the calls' steps.
-use Rattle.std.specs.Prelude.{ℕ, Bool, List, [], Some, None, Option}
+use Rattle.std.specs.Prelude.{ℕ, Bool, List, Option}
 use Rattle.image.specs.Faults.{fault_number, fault_place}
 use Rattle.image.specs.Image.{image, image_length}
 use Rattle.image.specs.Opened.{opened}

@@ -1,12 +1,12 @@
 -- the tests that tell a layout
-use Rattle.std.proofs.Common.{◌≡◌, ℕ, zero, suc, ◌+◌, ◌-◌, ◌^◌, ◌<◌, ◌≤◌, true, false, List, [], ◌∷◌, ◌++◌, map, length, take, drop, replicate, is_some, Some, None, Decides, Option, sym, refl, ap, ◌∙◌, subst, inl, inr, arith}
+use Rattle.std.proofs.Common.{◌≡◌, ℕ, ◌-◌, ◌^◌, ◌<◌, ◌≤◌, true, false, List, [], ◌∷◌, ◌++◌, map, length, take, drop, replicate, is_some, Some, None, Decides, Option, sym, refl, ap, ◌∙◌, subst, inl, inr, arith}
 use Rattle.std.proofs.lemmas.List.{take-append-drop, length-take-le, length-drop, length-map}
 use Rattle.std.proofs.lemmas.Bool.{both_ways}
 use Rattle.kinds.specs.Kinds.{KeyLaws}
 use Rattle.kinds.specs.declared.record.Record.{Record}
 use Rattle.layout.specs.Capacity.{capacity}
-use Rattle.layout.specs.Cells.{Lawful, at, filled, layout, records_of}
-use Rattle.layout.specs.Orders.{In, All, Ascending}
+use Rattle.layout.specs.Cells.{Lawful, filled, layout, records_of}
+use Rattle.layout.specs.Orders.{In, Ascending}
 use Rattle.layout.specs.Places.{first_out, AllInPlace}
 use Rattle.layout.specs.Views.{hash_some}
 use Rattle.layout.proofs.Capacities.{capacity_range}
@@ -17,7 +17,7 @@ use Rattle.layout.proofs.Places.{first_out_none}
 use Rattle.layout.proofs.Records.{Distinct, distinct, records_in, records_count, records_ascending}
 use Rattle.layout.proofs.Tests.{some_none}
 use Rattle.layout.proofs.Views.{unseen, ascending_unseen, hash_some_small}
-use Rattle.maps.specs.Maps.{Kinds, record_order, lent, contents, Laid}
+use Rattle.maps.specs.Maps.{Kinds, record_order, lent}
 use Rattle.sheets.specs.Checks.{Keyed}
 use Rattle.table.specs.Rows.{row_key, row_order, row_rule}
 use Rattle.table.specs.Runs.{Stores}

@@ -1,6 +1,6 @@
 -- Rows of places made from a function of the index.
-use Rattle.std.proofs.Common.{◌≡◌, ℕ, ◌+◌, ◌-◌, ◌*◌, ◌/◌, ◌<◌, ◌≤◌, ◌≢◌, ◌⊎◌, List, ◌++◌, map, length, get_or, take, drop, set, sym, refl, ap, ◌∙◌, inl, inr, ⊎_elim, mul-le-mul_right, add-mul, arith, rules}
-use Rattle.std.proofs.lemmas.List.{length-append, length-take, length-drop, length-take-le, drop_at, take_at, drop-take, take-append-le, take-take, append_assoc, drop-drop, same_lists, length-set, get_or-set_same, get_or-set_other, get_or_default}
+use Rattle.std.proofs.Common.{◌≡◌, ℕ, ◌+◌, ◌-◌, ◌*◌, ◌<◌, ◌≤◌, ◌≢◌, List, ◌++◌, length, get_or, take, drop, set, sym, refl, ap, ◌∙◌, inl, inr, ⊎_elim, mul-le-mul_right, add-mul, arith}
+use Rattle.std.proofs.lemmas.List.{length-append, length-take, length-drop, length-take-le, drop_at, take_at, drop-take, take-append-le, take-take, append_assoc, drop-drop, length-set, get_or-set_same, get_or-set_other}
 use Rattle.std.proofs.lemmas.List.FromFn.{length-map-range_with_len, get_or-map-range_with_len, fill_by_all}
 use Rattle.std.proofs.lemmas.Bool.{cases_eq, cases_lt}
 use Rattle.store.specs.Places.{Place, places}

@@ -1,14 +1,13 @@
 -- The rules of stores.
-use Rattle.std.proofs.Common.{◌≡◌, ℕ, ◌<◌, ◌≤◌, Bool, true, false, cond, ltb, ◌≢◌, List, length, get_or, take, drop, set, Some, None, sym, refl, ap, ◌∙◌, arith}
+use Rattle.std.proofs.Common.{◌≡◌, ℕ, Bool, true, false, cond, ltb, ◌≢◌, List, get_or, take, drop, set, Some, None, sym, refl, ap, ◌∙◌, arith}
 use Rattle.std.proofs.lemmas.Slice.Eq.{bytes_eq-Decides}
 use Rattle.std.proofs.lemmas.List.{get_or-set_same, get_or-set_other}
 use Rattle.std.proofs.lemmas.Bool.{le-ltb}
 use Rattle.std.specs.Str.{bytes_eq}
-use Rattle.store.specs.Answers.{shown_after}
 use Rattle.store.specs.Laws.{Laws}
 use Rattle.store.specs.Lent.{block_at}
 use Rattle.store.specs.Places.{Place}
-use Rattle.store.specs.Sums.{sums, checked_place}
+use Rattle.store.specs.Sums.{sums}
 use Rattle.store.proofs.Told.{taken}
 
 either_way : (t locked : Bool) (xs : List Place) (i k : ℕ) (p : Place) → k ≢ i → get_or (cond t (cond locked xs (set xs i p)) xs) k None ≡ get_or xs k None

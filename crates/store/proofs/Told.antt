@@ -1,7 +1,7 @@
 -- What a store's answer tells of what it shows, and the other way round.
-use Rattle.std.proofs.Common.{◌≡◌, ℕ, ◌<◌, Bool, true, false, cond, ltb, List, get_or, set, Some, None, sym, refl, ap, ◌∙◌, arith, rules}
+use Rattle.std.proofs.Common.{◌≡◌, ℕ, ◌<◌, Bool, true, false, cond, List, get_or, Some, None, sym, refl, ap, ◌∙◌, arith, rules}
 use Rattle.store.specs.Places.{Place}
-use Rattle.store.specs.Answers.{Answer, given, refused, read_answer, write_answer, place_answer, after_write, shown_after, unreadable, write_protected, out_of_range}
+use Rattle.store.specs.Answers.{Answer, given, refused, read_answer, write_answer, place_answer, after_write, unreadable, write_protected}
 
 pub within_read : (n : ℕ) (xs : List Place) (i : ℕ) → i < n → read_answer n xs i ≡ place_answer i (get_or xs i None)
 within_read n xs i h = search rules

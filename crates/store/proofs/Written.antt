@@ -1,5 +1,5 @@
 -- What a write of a block does to lent bytes.
-use Rattle.std.proofs.Common.{◌≡◌, ℕ, ◌+◌, ◌*◌, ◌/◌, ◌<◌, ◌≤◌, List, length, take, drop, set, Some, sym, refl, ap, ◌∙◌, mul-le-mul_right, add-mul, div-mul-le_self, arith}
+use Rattle.std.proofs.Common.{◌≡◌, ℕ, ◌+◌, ◌*◌, ◌/◌, ◌<◌, ◌≤◌, List, length, take, drop, set, ap, ◌∙◌, mul-le-mul_right, add-mul, div-mul-le_self, arith}
 use Rattle.store.specs.Places.{Place, places}
 use Rattle.store.specs.Lent.{overwritten}
 use Rattle.store.proofs.Rows.{set_places, length_overwritten, rest_behind, own_part, other_part}

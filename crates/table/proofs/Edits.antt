@@ -1,6 +1,6 @@
 -- what became of the map that cells hold, at the end of each command
 use Rattle.std.proofs.Common.{◌≡◌, ℕ, ◌+◌, ◌-◌, ◌<◌, ◌≤◌, Bool, true, false, List, ◌++◌, length, take, drop, set, replicate, Some, None, Option, sym, refl, ap, ◌∙◌, subst, arith}
-use Rattle.std.proofs.lemmas.List.{set-append_left, take-append-drop, length-take-le}
+use Rattle.std.proofs.lemmas.List.{set-append_left, take-append-drop}
 use Rattle.std.proofs.lemmas.Bool.{le-leb, lt-leb}
 use Rattle.kinds.specs.Kinds.{KeyLaws}
 use Rattle.kinds.specs.declared.record.Record.{Record}
@@ -8,12 +8,12 @@ use Rattle.layout.specs.Capacity.{capacity}
 use Rattle.layout.specs.Cells.{records_of, layout}
 use Rattle.layout.specs.Theorems.{MapLaws}
 use Rattle.layout.specs.Views.{seen}
-use Rattle.layout.proofs.Capacities.{capacity_range, capacity_room}
+use Rattle.layout.proofs.Capacities.{capacity_room}
 use Rattle.layout.proofs.Joins.{join_in_place}
 use Rattle.layout.proofs.MapLaws.{map_laws}
 use Rattle.layout.proofs.Tests.{some_none}
 use Rattle.maps.specs.Commands.{found, merged, with_pair, without_key, is_full, put_answer, drop_answer, get_answer, put_after}
-use Rattle.maps.specs.Maps.{Kinds, record_order, lent, contents, Laid, Lawful}
+use Rattle.maps.specs.Maps.{Kinds, record_order, lent, Laid}
 use Rattle.maps.specs.declared.Answer.{Answer}
 use Rattle.maps.specs.declared.Answer.TheVariants.{New, Joined, Full, Dropped, Absent, Found}
 use Rattle.table.specs.Rows.{Finds, held_by, row_order, row_rule, row_merged, cells_with, cells_without}

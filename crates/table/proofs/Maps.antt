@@ -1,5 +1,5 @@
 -- lent cells that hold a map, opened as cells over rows, and closed again
-use Rattle.std.proofs.Common.{◌≡◌, ℕ, ◌+◌, ◌-◌, ◌<◌, ◌≤◌, List, ◌++◌, map, length, take, drop, replicate, Some, None, Option, sym, refl, ap, ◌∙◌, subst, arith, length-append, length-take}
+use Rattle.std.proofs.Common.{◌≡◌, ℕ, ◌-◌, ◌<◌, ◌≤◌, List, ◌++◌, map, length, take, drop, replicate, Some, None, Option, sym, refl, ap, ◌∙◌, subst, arith, length-append}
 use lib.ListN.{length-replicate}
 use Rattle.std.proofs.lemmas.List.{take_at, drop_at, length-map}
 use Rattle.kinds.specs.Kinds.{KeyLaws}
@@ -9,7 +9,7 @@ use Rattle.layout.specs.Cells.{Rule, Lawful, layout, records_of, filled}
 use Rattle.layout.specs.Map.{put, without, get}
 use Rattle.layout.specs.Orders.{Ascending}
 use Rattle.layout.specs.Places.{Sound}
-use Rattle.layout.specs.Views.{View, SeenKey, seen, hash_some}
+use Rattle.layout.specs.Views.{View, seen, hash_some}
 use Rattle.layout.proofs.Capacities.{capacity_range, capacity_room}
 use Rattle.layout.proofs.Layouts.{layout_sound, sound_count}
 use Rattle.layout.proofs.Records.{records_layout}

@@ -1,13 +1,11 @@
 -- Lent cells hold rows: what the layout's words say of them.
-use Rattle.std.specs.Prelude.{◌≡◌, ℕ, ◌<◌, Bool, List, length, Some, None, Option}
-use Rattle.std.specs.Ordering.{is_lt}
+use Rattle.std.specs.Prelude.{◌≡◌, ℕ, ◌<◌, List, length, Some, None, Option}
 use Rattle.kinds.specs.declared.record.Record.{Record}
-use Rattle.layout.specs.Capacity.{home_at}
 use Rattle.layout.specs.Cells.{Rule, hashed, at, layout, records_of}
 use Rattle.layout.specs.Map.{put, without, get}
 use Rattle.layout.specs.Orders.{Order}
 use Rattle.layout.specs.Places.{Sound}
-use Rattle.layout.specs.Views.{before_some, partly, hash_some}
+use Rattle.layout.specs.Views.{partly, hash_some}
 use Rattle.maps.specs.Maps.{Kinds, record_order}
 
 module _ {K Row V : Type 0} (x : Kinds K Row V) where

@@ -5,7 +5,7 @@ use Rattle.std.proofs.lemmas.Bool.{and_from, le-leb, cond-true, cond-false}
 use Rattle.std.proofs.lemmas.Bool.Decides.{nat_tests}
 use Rattle.std.specs.List.{list_all}
 use Rattle.text.specs.Faults.{told}
-use Rattle.text.specs.Keys.{text, text_type}
+use Rattle.text.specs.Keys.{text_type}
 use Rattle.text.specs.Letters.{is_allowed, turned, keeps}
 use Rattle.text.specs.Making.{first_bad, text_fault, Makes, allowed_front, refusal, refused, CaseBlind}
 use Rattle.text.specs.Rows.{right_length, row_text, row_kept}

@@ -1,5 +1,5 @@
 -- Four slots, of which the first n hold a block each.
-use Rattle.std.proofs.Common.{◌≡◌, ℕ, zero, suc, ◌+◌, ◌-◌, ◌<◌, ◌≤◌, cond, eqb, List, [], ◌∷◌, ◌++◌, length, get_or, take, drop, set, Some, None, sym, refl, ap, ◌∙◌, arith}
+use Rattle.std.proofs.Common.{◌≡◌, ℕ, zero, suc, ◌+◌, ◌-◌, ◌<◌, ◌≤◌, cond, eqb, List, [], ◌∷◌, ◌++◌, length, get_or, take, drop, set, Some, sym, refl, ap, ◌∙◌, arith}
 use Rattle.std.proofs.lemmas.List.{take-append-le, take_more_set, get_or-take, at_drop_more, at_drop_all, length-take, length-append}
 use Rattle.store.specs.Places.{Place}
 use Rattle.writeback.specs.Slots.{oldest, latest_from, without, renewed, newest_four, beyond_four}

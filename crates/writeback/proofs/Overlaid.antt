@@ -1,8 +1,8 @@
 -- What shows of held blocks over a store below.
-use Rattle.std.proofs.Common.{◌≡◌, ℕ, ◌-◌, ◌<◌, ◌≤◌, Bool, true, false, cond, not, eqb, ltb, ◌≢◌, List, [], ◌∷◌, ◌++◌, length, get_or, take, drop, set, Some, None, sym, refl, ap, ◌∙◌, ⊎_elim, arith}
+use Rattle.std.proofs.Common.{◌≡◌, ℕ, ◌-◌, ◌<◌, ◌≤◌, Bool, true, false, cond, not, eqb, ltb, ◌≢◌, List, [], ◌∷◌, ◌++◌, length, get_or, set, Some, None, sym, refl, ap, ◌∙◌, ⊎_elim, arith}
 use Rattle.std.proofs.lemmas.List.{get_or-set_same, get_or-set_other, set-set, set_comm, take-append-drop}
 use Rattle.std.proofs.lemmas.Bool.{cases_eq, cases_lt, eq-eqb, ne_eqb, le-ltb}
-use Rattle.store.specs.Answers.{given, refused, unreadable, read_answer, after_write, shown_after}
+use Rattle.store.specs.Answers.{given, refused, unreadable, read_answer, shown_after}
 use Rattle.store.specs.Places.{Place}
 use Rattle.store.proofs.Told.{read_block, read_fault, gives_block, gives_fault, taken}
 use Rattle.writeback.specs.Overlays.{overlay, length_after}

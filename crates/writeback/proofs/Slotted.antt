@@ -1,5 +1,5 @@
 -- Lists of held blocks: no place twice, and what a written block changes.
-use Rattle.std.proofs.Common.{◌≡◌, ℕ, Bool, true, false, cond, not, ◌&&◌, ◌||◌, eqb, List, [], ◌∷◌, ◌++◌, sym, refl, ap, ◌∙◌}
+use Rattle.std.proofs.Common.{◌≡◌, ℕ, Bool, true, false, cond, not, eqb, List, [], ◌∷◌, ◌++◌, sym, refl, ap, ◌∙◌}
 use Rattle.std.proofs.lemmas.Bool.{and_parts, and_from, or_parts, or_from, not-true, not_from_false, eq-eqb, ne_eqb, both_ways}
 use Rattle.writeback.specs.Slots.{is_held, apart, without, renewed}
 use Rattle.writeback.specs.declared.slot.Slot.{Slot}

@@ -1,12 +1,8 @@
 -- A stack from what its layers were made of.
-use Rattle.std.proofs.Common.{◌≡◌, ℕ, min, Bool, true, false, ◌||◌, List, [], sym, refl, ap, ◌∙◌}
+use Rattle.std.proofs.Common.{◌≡◌, ℕ, min, Bool, true, false, ◌||◌, List, [], ap}
 use Rattle.layers.specs.Layers.{offset_count, offset_places, mirror_places}
 use Rattle.store.specs.Lent.{plain_count, plain_places}
 use Rattle.store.specs.Sums.{checked_count, checked_places}
-use Rattle.store.specs.declared.checked.CheckedStore.{CheckedStore}
-use Rattle.layers.specs.declared.mirror.Mirror.{Mirror}
-use Rattle.layers.specs.declared.offset.Offset.{Offset}
-use Rattle.store.specs.declared.plain.PlainStore.{PlainStore}
 use Rattle.writeback.specs.Holds.{held_list}
 use Rattle.writeback.specs.Overlays.{overlay}
 use Rattle.writeback.specs.Stacks.{Stacked, stack_count, stack_protected, stack_shown, stack_kept}

@@ -1,4 +1,4 @@
-use Rattle.std.proofs.Common.{◌≡◌, length, sym, ap, ◌∙◌, arith}
+use Rattle.std.proofs.Common.{sym, ap, ◌∙◌, arith}
 use Rattle.maps.specs.Maps.{kinds_of, contents}
 use Rattle.image.specs.Image.{image}
 use Rattle.image_reader.proofs.Ends.{filling}

@@ -1,4 +1,4 @@
-use Rattle.std.proofs.Common.{◌≡◌, length, replicate, None, Ok, Err, ap, ◌∙◌}
+use Rattle.std.proofs.Common.{replicate, None, Ok, Err, ap, ◌∙◌}
 use Rattle.contents.specs.Faults.{told}
 use Rattle.contents.specs.Setups.{setup, meaning}
 use Rattle.contents.proofs.Setups.{setup_laws}

@@ -1,4 +1,4 @@
-use Rattle.std.proofs.Common.{◌≡◌, length, sym, ap, ◌∙◌}
+use Rattle.std.proofs.Common.{length, ap, ◌∙◌}
 use Rattle.model.specs.Refusals.{begin_refusal}
 use Rattle.contents.specs.Setups.{meaning}
 use Rattle.contents.proofs.Found.{finds, none_told}

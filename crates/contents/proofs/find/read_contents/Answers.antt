@@ -1,8 +1,6 @@
-use Rattle.std.proofs.Common.{◌≡◌, length, Ok, Err, sym, ap, ◌∙◌, subst}
+use Rattle.std.proofs.Common.{length, Err, ap, ◌∙◌}
 use Rattle.std.proofs.lemmas.Result.{err_from_is_err_and}
-use Rattle.image_store.specs.Loads.{store_opened}
 use Rattle.maps.specs.Maps.{kinds_of}
-use Rattle.contents.specs.Readings.{FoundIn}
 use Rattle.contents.proofs.Found.{refused_found}
 use Rattle.contents.proofs.find.read_contents.Goals as goal
 

@@ -1,4 +1,4 @@
-use Rattle.std.proofs.Common.{◌≡◌, ℕ, ◌*◌, ◌%◌, ◌^◌, ◌≤◌, ap, ◌∙◌, arith}
+use Rattle.std.proofs.Common.{◌≡◌, ◌^◌, ◌≤◌, ap, arith}
 use native.Mathlib.Nat.{pow-le-pow_right}
 use Rattle.layout.specs.Capacity.{power, capacity}
 use Rattle.layout.proofs.Capacities.{power_law}

@@ -1,4 +1,4 @@
-use Rattle.std.proofs.Common.{◌≡◌, ◌+◌, ◌-◌, sym, ap, ◌∙◌, arith}
+use Rattle.std.proofs.Common.{◌≡◌, ◌+◌, ◌-◌, ap, arith}
 use Rattle.image.specs.Bits.{one, ones}
 use Rattle.image.specs.Opened.{marked}
 use Rattle.image.proofs.Chains.{ones_more}

@@ -1,4 +1,4 @@
-use Rattle.std.proofs.Common.{not, length, get_or, sym, ap, arith}
+use Rattle.std.proofs.Common.{not, length, get_or, sym, ap}
 use Rattle.std.proofs.lemmas.Bool.{ne_eqb, eq-eqb}
 use Rattle.image.specs.declared.fault.ImageFault.TheVariants.{Tail}
 use Rattle.image.specs.Opened.{not_zero, tail_check, unless}

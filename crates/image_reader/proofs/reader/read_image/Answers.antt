@@ -1,4 +1,4 @@
-use Rattle.std.proofs.Common.{◌≡◌, ℕ, ◌<◌, length, get_or, replicate, None, Ok, Err, sym, ap, ◌∙◌, arith}
+use Rattle.std.proofs.Common.{◌≡◌, ℕ, ◌<◌, length, get_or, replicate, None, Ok, Err, ap, ◌∙◌, arith}
 use Rattle.maps.specs.Maps.{KindsLaws, kinds_of}
 use Rattle.image.specs.Opened.{opened}
 use Rattle.image.proofs.Theorems.{image_laws}

@@ -1,9 +1,9 @@
-use Rattle.std.proofs.Common.{◌≡◌, ℕ, ◌+◌, ◌/◌, ◌<◌, ◌≤◌, length, drop, set, Some, None, Ok, Err, sym, refl, ap, ◌∙◌, subst, arith}
+use Rattle.std.proofs.Common.{◌≡◌, ◌+◌, ◌/◌, ◌<◌, length, drop, set, Some, Err, sym, ap, ◌∙◌, subst, arith}
 use Rattle.std.proofs.lemmas.Result.{err_from_is_err_and}
 use Rattle.maps.specs.Maps.{KindsLaws, kinds_of}
-use Rattle.image.specs.Opened.{Cells, front_of}
+use Rattle.image.specs.Opened.{front_of}
 use Rattle.image_reader.specs.Parts.{place_of, Filled}
-use Rattle.image_reader.proofs.Turns.{Turn, begin, full, empty, fault, done, turned, read_within, record_some, record_none}
+use Rattle.image_reader.proofs.Turns.{begin, full, empty, fault, done, turned, read_within, record_some, record_none}
 use Rattle.image_reader.proofs.records.read_cells.Goals.{then-is_marked+in_ok-found, else-is_marked}
 use Rattle.image_reader.proofs.records.read_cells.Goals as goal
 

@@ -1,4 +1,4 @@
-use Rattle.std.proofs.Common.{◌≡◌, sym, ap, ◌∙◌, arith}
+use Rattle.std.proofs.Common.{sym, ◌∙◌, arith}
 use Rattle.image_save.proofs.Writes.{more_written, all_written}
 use Rattle.image_save.proofs.blocks.write_all.Goals as goal
 

@@ -1,4 +1,4 @@
-use Rattle.std.proofs.Common.{◌≡◌, sym, ap, ◌∙◌, arith}
+use Rattle.std.proofs.Common.{ap, ◌∙◌}
 use Rattle.image.specs.Image.{image}
 use Rattle.maps.specs.Maps.{kinds_of, contents}
 use Rattle.model.specs.Blocks.{blocks_of}

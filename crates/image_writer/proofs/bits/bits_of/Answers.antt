@@ -1,4 +1,4 @@
-use Rattle.std.proofs.Common.{◌≡◌, ℕ, ◌+◌, ◌-◌, ◌*◌, ◌<◌, ◌≤◌, length, is_some, sym, refl, ap, ◌∙◌, ap₂, arith}
+use Rattle.std.proofs.Common.{◌≡◌, ◌+◌, ◌-◌, ◌*◌, is_some, sym, refl, ap, ◌∙◌, ap₂, arith}
 use Rattle.image.specs.Bits.{one}
 use Rattle.image.specs.Image.{held}
 use Rattle.image.proofs.Packs.{one_le}

@@ -1,4 +1,4 @@
-use Rattle.std.proofs.Common.{◌≡◌, ℕ, ◌+◌, ◌/◌, length, sym, ap, ◌∙◌, ap₂, arith}
+use Rattle.std.proofs.Common.{◌+◌, ◌/◌, length, sym, ap, ◌∙◌, ap₂, arith}
 use Rattle.layout.proofs.Capacities.{capacity_range}
 use Rattle.maps.specs.Maps.{KindsLaws, kinds_of}
 use Rattle.image_writer.proofs.Wholes.{all_codes, length_is}

@@ -1,8 +1,6 @@
-use Rattle.std.proofs.Common.{◌≡◌, ℕ, ◌+◌, ◌/◌, ◌≤◌, length, take, replicate, sym, ap, ◌∙◌, ap₂, arith}
-use lib.ListN.{length-replicate}
+use Rattle.std.proofs.Common.{◌≡◌, ◌+◌, ◌/◌, ◌≤◌, length, take, replicate, sym, ap, ◌∙◌, arith}
 use Rattle.kinds.specs.Records.{written}
 use Rattle.maps.specs.Maps.{KindsLaws, kinds_of, contents}
-use Rattle.layout.specs.Capacity.{capacity}
 use Rattle.image.specs.Bits.{bit_map}
 use Rattle.image.specs.Image.{header, held, codes, code_of, image_length}
 use Rattle.image.specs.Rows.{keyed_cells}

@@ -1,4 +1,4 @@
-use Rattle.std.proofs.Common.{◌≡◌, sym, ap, ◌∙◌, arith}
+use Rattle.std.proofs.Common.{sym, ◌∙◌, arith}
 use Rattle.register.proofs.Writes.{more_written, all_written}
 use Rattle.register.proofs.blocks.write_all.Goals as goal
 

@@ -1,4 +1,4 @@
-use Rattle.std.proofs.Common.{◌≡◌, ◌<◌, length, sym, ap, ◌∙◌, arith, rules}
+use Rattle.std.proofs.Common.{◌<◌, length, sym, arith, rules}
 use Rattle.layout.proofs.Tests.{is_some_true, is_some_false}
 use Rattle.register.proofs.Copies.{copied_within, copied_skip, copied_more, copied_all}
 use Rattle.register.proofs.listing.copy_filled.Goals as goal

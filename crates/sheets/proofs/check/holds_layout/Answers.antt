@@ -1,4 +1,4 @@
-use Rattle.std.proofs.Common.{◌≡◌, true, false, not, length, is_some, sym, refl, ap, ◌∙◌, arith}
+use Rattle.std.proofs.Common.{not, is_some, sym, ap, ◌∙◌, arith}
 use Rattle.std.proofs.lemmas.List.{take_rest, length-take-le}
 use Rattle.std.proofs.lemmas.Bool.{both_ways, not-false}
 use Rattle.layout.specs.Cells.{filled}

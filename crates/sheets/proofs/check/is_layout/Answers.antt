@@ -1,4 +1,4 @@
-use Rattle.std.proofs.Common.{◌≡◌, sym, refl, ap, ◌∙◌, arith}
+use Rattle.std.proofs.Common.{refl, ◌∙◌, arith}
 use Rattle.layout.specs.Capacity.{capacity}
 use Rattle.layout.proofs.Capacities.{capacity_range}
 use Rattle.maps.specs.Maps.{kinds_of}

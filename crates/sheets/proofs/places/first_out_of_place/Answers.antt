@@ -1,4 +1,4 @@
-use Rattle.std.proofs.Common.{◌≡◌, true, false, length, Some, None, sym, refl, ap, ◌∙◌, arith}
+use Rattle.std.proofs.Common.{true, false, length, Some, None, sym, ◌∙◌}
 use Rattle.layout.specs.Places.{barred, out_of_place}
 use Rattle.layout.proofs.Places.{empty_cell, filled_cell}
 use Rattle.maps.specs.Maps.{kinds_of}

@@ -1,4 +1,4 @@
-use Rattle.std.proofs.Common.{◌≡◌, ℕ, true, false, length, Some, None, sym, ap, ◌∙◌, subst, arith}
+use Rattle.std.proofs.Common.{ℕ, true, false, length, Some, None, sym, ◌∙◌, subst, arith}
 use Rattle.layout.specs.Walks.{Way}
 use Rattle.layout.proofs.Places.{way_start, way_on, way_end, way_empty, way_later}
 use Rattle.maps.specs.Maps.{kinds_of}

@@ -1,4 +1,4 @@
-use Rattle.std.proofs.Common.{◌≡◌, length, take, replicate, None, sym, refl, ap, ◌∙◌, arith}
+use Rattle.std.proofs.Common.{length, take, replicate, None, sym, ap, ◌∙◌, arith}
 use Rattle.maps.specs.Commands.{map_after_sheet}
 use Rattle.maps.specs.Maps.{kinds_of}
 use Rattle.sheets.proofs.Walking.{walk_start, walk_on, walk_end}

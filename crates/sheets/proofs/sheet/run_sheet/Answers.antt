@@ -1,4 +1,4 @@
-use Rattle.std.proofs.Common.{◌≡◌, ℕ, length, replicate, None, sym, refl, ap, ◌∙◌}
+use Rattle.std.proofs.Common.{ℕ, replicate, None, sym, refl, ap, ◌∙◌}
 use Rattle.sheets.proofs.Keying.{lengths}
 use Rattle.sheets.proofs.sheet.run_sheet.Goals as goal
 

@@ -1,4 +1,4 @@
-use Rattle.std.proofs.Common.{Some, refl, rules}
+use Rattle.std.proofs.Common.{Some, refl}
 use Rattle.store.proofs.Written.{parts_after, tail_kept}
 use Rattle.store.proofs.plain.put_block.Goals as goal
 

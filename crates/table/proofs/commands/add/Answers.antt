@@ -1,4 +1,4 @@
-use Rattle.std.proofs.Common.{◌≡◌, ℕ, ◌+◌, ◌<◌, ◌≤◌, List, length, sym, refl, ap, ◌∙◌, arith}
+use Rattle.std.proofs.Common.{◌≡◌, ℕ, ◌+◌, ◌<◌, ◌≤◌, List, length, refl, ◌∙◌, arith}
 use Rattle.layout.specs.Capacity.{capacity}
 use Rattle.layout.proofs.Capacities.{capacity_range, capacity_room}
 use Rattle.kinds.specs.declared.record.Record.{Record}

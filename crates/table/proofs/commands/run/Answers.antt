@@ -1,4 +1,4 @@
-use Rattle.std.proofs.Common.{◌≡◌, Some, None, sym, refl, ap, ◌∙◌}
+use Rattle.std.proofs.Common.{sym, refl, ap, ◌∙◌}
 use Rattle.maps.specs.Maps.{kinds_of}
 use Rattle.maps.specs.declared.Command.TheVariants.{Put, Drop, Get}
 use Rattle.table.proofs.Turns.{by_none, by_key}

@@ -1,8 +1,5 @@
-use Rattle.std.proofs.Common.{◌≡◌, ℕ, ◌<◌, ◌≤◌, length, take, Some, None, sym, refl, ap, ◌∙◌, subst, arith}
-use Rattle.layout.specs.Capacity.{capacity}
+use Rattle.std.proofs.Common.{arith}
 use Rattle.maps.specs.Maps.{kinds_of}
-use Rattle.std.proofs.lemmas.List.{length-take-le}
-use Rattle.table.specs.Rows.{Finds, held_by}
 use Rattle.table.proofs.Maps.{opened}
 use Rattle.table.proofs.Edits.{get_finds, get_finds_none}
 use Rattle.table.proofs.commands.run_get.Goals as goal

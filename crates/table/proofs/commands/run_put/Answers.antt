@@ -1,8 +1,6 @@
-use Rattle.std.proofs.Common.{◌≡◌, ℕ, ◌<◌, ◌≤◌, length, take, Some, None, sym, refl, ap, ◌∙◌, subst, arith}
-use Rattle.layout.specs.Capacity.{capacity}
+use Rattle.std.proofs.Common.{◌≡◌, ℕ, take, Some, None, refl, subst, arith}
 use Rattle.maps.specs.Maps.{kinds_of}
-use Rattle.std.proofs.lemmas.List.{length-take-le}
-use Rattle.table.specs.Rows.{Finds, held_by}
+use Rattle.table.specs.Rows.{held_by}
 use Rattle.table.proofs.Maps.{opened}
 use Rattle.table.proofs.Edits.{put_joins, put_full, put_adds}
 use Rattle.table.proofs.commands.run_put.Goals as goal

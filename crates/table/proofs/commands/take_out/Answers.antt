@@ -1,4 +1,4 @@
-use Rattle.std.proofs.Common.{◌≡◌, ℕ, ◌+◌, ◌-◌, ◌<◌, ◌≤◌, List, length, take, Some, sym, refl, ap, ◌∙◌, subst, arith}
+use Rattle.std.proofs.Common.{◌≡◌, ℕ, ◌+◌, ◌-◌, ◌<◌, ◌≤◌, length, take, Some, sym, refl, ◌∙◌, subst, arith}
 use Rattle.layout.specs.Capacity.{capacity}
 use Rattle.layout.proofs.Capacities.{capacity_range, capacity_room}
 use Rattle.maps.specs.Commands.{without_key}

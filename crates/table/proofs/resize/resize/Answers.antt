@@ -1,4 +1,4 @@
-use Rattle.std.proofs.Common.{◌≡◌, ℕ, List, ◌++◌, length, take, replicate, None, sym, ap, ◌∙◌}
+use Rattle.std.proofs.Common.{ℕ, ◌++◌, length, take, replicate, None, sym, ap, ◌∙◌}
 use Rattle.layout.specs.Cells.{layout, records_of}
 use Rattle.maps.specs.Maps.{kinds_of}
 use Rattle.table.specs.Rows.{row_order, row_rule}

@@ -1,4 +1,4 @@
-use Rattle.std.proofs.Common.{◌≡◌, ℕ, ◌+◌, ◌*◌, ◌/◌, ◌^◌, ◌<◌, ◌≤◌, subst, inl, inr, arith, pow_mono}
+use Rattle.std.proofs.Common.{◌≡◌, ℕ, ◌*◌, ◌/◌, ◌<◌, ◌≤◌, subst, inl, inr, arith, pow_mono}
 use Rattle.layout.specs.Walks.{Climb}
 use Rattle.layout.proofs.Capacities.{climb_start, climb_on, climb_end}
 use Rattle.table.proofs.ring.capacity_of.Goals as goal

@@ -1,4 +1,4 @@
-use Rattle.std.proofs.Common.{◌≡◌, ℕ, ◌<◌, ◌≤◌, length, replicate, Some, None, sym, refl, ap, ◌∙◌, subst, arith}
+use Rattle.std.proofs.Common.{ℕ, length, Some, None, sym, refl, ap, ◌∙◌, subst, arith}
 use Rattle.layout.specs.Cells.{records_of, layout}
 use Rattle.layout.specs.Map.{put}
 use Rattle.layout.specs.Places.{Sound}

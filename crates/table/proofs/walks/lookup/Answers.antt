@@ -1,12 +1,8 @@
-use Rattle.std.proofs.Common.{◌≡◌, ◌<◌, true, false, length, Some, None, sym, ◌∙◌}
-use Rattle.layout.specs.Cells.{Lawful, at}
-use Rattle.layout.specs.Places.{Reach}
-use Rattle.layout.specs.Walks.{steps_left}
+use Rattle.std.proofs.Common.{true, false, Some, None, sym, ◌∙◌}
 use Rattle.layout.proofs.Lookups.{look_start, look_on, look_here, look_empty, look_later}
 use Rattle.maps.specs.Maps.{kinds_of}
-use Rattle.table.specs.Rows.{row_order, row_rule}
+use Rattle.table.specs.Rows.{row_order}
 use Rattle.table.proofs.Rules.{read_at, told, lawful}
-use Rattle.table.proofs.walks.lookup.Given as given
 use Rattle.table.proofs.walks.lookup.Goals as goal
 
 pub probe-init : goal.probe-init

@@ -1,11 +1,11 @@
-use Rattle.std.proofs.Common.{◌≡◌, ℕ, ◌<◌, ◌≤◌, length, set, Some, None, sym, refl, ap, ◌∙◌, arith}
+use Rattle.std.proofs.Common.{◌<◌, length, set, Some, None, ap, ◌∙◌, arith}
 use Rattle.layout.specs.Capacity.{home_at}
 use Rattle.layout.specs.Cells.{distance as steps}
 use Rattle.layout.specs.Views.{hash_some}
 use Rattle.layout.specs.Walks.{Shift, steps_left}
 use Rattle.layout.proofs.Shifts.{shift_start, shift_stay, shift_move, shift_end}
 use Rattle.maps.specs.Maps.{kinds_of}
-use Rattle.table.specs.Rows.{row_key, row_order, row_rule}
+use Rattle.table.specs.Rows.{row_rule}
 use Rattle.table.proofs.Rules.{read_at, lawful, home_inside}
 use Rattle.table.proofs.walks.remove.Given as given
 use Rattle.table.proofs.walks.remove.Goals.{then-distance, else-distance}

@@ -1,4 +1,4 @@
-use Rattle.std.proofs.Common.{◌≡◌, ◌+◌, ◌≤◌, length, set, Ok, sym, ap, ◌∙◌, ap₂, arith}
+use Rattle.std.proofs.Common.{◌≡◌, ◌+◌, set, Ok, ap, ◌∙◌, ap₂, arith}
 use Rattle.kinds.specs.Records.{record_code}
 use Rattle.kinds.proofs.Writing.{partly_none, partly_more, all_written}
 use Rattle.kinds.proofs.record.Record.write.Goals as goal

@@ -1,4 +1,4 @@
-use Rattle.std.proofs.Common.{◌≡◌, ◌<◌, set, Some, ◌∙◌, rules}
+use Rattle.std.proofs.Common.{◌<◌, set, Some, ◌∙◌, rules}
 use Rattle.std.proofs.lemmas.Bool.{or_parts}
 use Rattle.layers.proofs.Mirrors.{mirror_after}
 use Rattle.store.proofs.Told.{taken}

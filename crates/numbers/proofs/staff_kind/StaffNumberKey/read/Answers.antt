@@ -1,4 +1,4 @@
-use Rattle.std.proofs.Common.{◌≡◌, ◌≤◌, length, sym, ap, ◌∙◌, arith, rules}
+use Rattle.std.proofs.Common.{◌≤◌, length, sym, ap, ◌∙◌, arith, rules}
 use Rattle.kinds.specs.Records.{read_answer}
 use Rattle.kinds.proofs.Fronts.{reads_exactly}
 use Rattle.numbers.specs.Staff.{staff, staff_kind}

@@ -1,4 +1,4 @@
-use Rattle.std.proofs.Common.{◌≡◌, length, sym, ap, ◌∙◌}
+use Rattle.std.proofs.Common.{length, ap, ◌∙◌}
 use Rattle.model.specs.Refusals.{list_refusal}
 use Rattle.register.specs.Worlds.{meaning}
 use Rattle.register.proofs.Listed.{listing_fits, listed_step}

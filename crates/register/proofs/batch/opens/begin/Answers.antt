@@ -1,8 +1,5 @@
-use Rattle.std.proofs.Common.{◌≡◌, false, length, sym, ap, ◌∙◌, subst}
-use Rattle.maps.specs.Maps.{kinds_of}
+use Rattle.std.proofs.Common.{false, length, ap, ◌∙◌}
 use Rattle.model.specs.Refusals.{begin_refusal}
-use Rattle.model.proofs.Refusals.{begin_taken}
-use Rattle.register.specs.Contents.{FoundIn}
 use Rattle.register.specs.Worlds.{meaning}
 use Rattle.register.proofs.Begun.{begun_step, not_begun_step}
 use Rattle.register.proofs.Openings.{none_told}

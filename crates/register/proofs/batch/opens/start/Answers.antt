@@ -1,4 +1,4 @@
-use Rattle.std.proofs.Common.{◌≡◌, false, length, ap, ◌∙◌, arith}
+use Rattle.std.proofs.Common.{false, length, ap, ◌∙◌, arith}
 use Rattle.model.specs.Refusals.{start_refusal}
 use Rattle.register.specs.Worlds.{meaning}
 use Rattle.register.proofs.Openings.{none_told, started_step}

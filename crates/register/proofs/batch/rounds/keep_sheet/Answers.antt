@@ -1,4 +1,4 @@
-use Rattle.std.proofs.Common.{◌≡◌, List, [], ◌∷◌, refl}
+use Rattle.std.proofs.Common.{[], ◌∷◌, refl}
 use Rattle.register.proofs.batch.rounds.keep_sheet.Goals as goal
 
 pub returns-in-Refused : goal.returns-in-Refused

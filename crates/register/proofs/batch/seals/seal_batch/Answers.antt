@@ -1,4 +1,4 @@
-use Rattle.std.proofs.Common.{◌≡◌, length, Some, sym, ap, ◌∙◌}
+use Rattle.std.proofs.Common.{length, sym, ap, ◌∙◌}
 use Rattle.maps.specs.Maps.{kinds_of}
 use Rattle.model.specs.Refusals.{other_kinds, seal_refusal, write_refusal}
 use Rattle.register.specs.Faults.{told_if}

@@ -1,4 +1,4 @@
-use Rattle.std.proofs.Common.{◌≡◌, [], take, ap, ◌∙◌, rules}
+use Rattle.std.proofs.Common.{[], take, ap, ◌∙◌, rules}
 use Rattle.writeback.specs.Slots.{apart}
 use Rattle.writeback.proofs.Filtered.{kept_more, passed_more, all_kept}
 use Rattle.writeback.proofs.Slotted.{apart_without}
