@@ -1,5 +1,5 @@
 -- What layers show of the stores below them.
-use Rattle.std.specs.Prelude.{ℕ, ◌+◌, ◌-◌, min, cond, List, get_or, Some, None, Ok, Err, Option, Result, nat_lt, slice_index_or}
+use Rattle.std.specs.Prelude.{ℕ, ◌+◌, ◌-◌, min, cond, List, Some, None, Ok, Err, Option, Result, nat_lt, slice_index_or}
 use Rattle.std.proofs.lemmas.List.FromFn.{length-map-range_with_len}
 use Rattle.std.specs.Str.{bytes_eq}
 use Rattle.store.specs.Places.{Place, places, Lengths}
@@ -9,7 +9,7 @@ abbrev pub offset_count : ℕ → ℕ → ℕ → ℕ
 offset_count first wished n = min wished (n - first)
 
 abbrev pub offset_places : ℕ → ℕ → ℕ → List Place → List Place
-offset_places first wished n below = places (offset_count first wished n) (λ k. get_or below (first + k) None)
+offset_places first wished n below = places (offset_count first wished n) (λ k. slice_index_or below (first + k) None)
 
 -- where block i lies below, if there is one
 abbrev pub offset_place : ℕ → ℕ → ℕ → ℕ → Option ℕ

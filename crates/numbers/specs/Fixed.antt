@@ -1,5 +1,5 @@
 -- Numbers of a fixed width as codes, the high byte first.
-use Rattle.std.specs.Prelude.{◌≡◌, ℕ, zero, suc, ◌/◌, ◌%◌, ◌^◌, ◌<◌, Bool, true, cond, ◌&&◌, ltb, List, [], ◌∷◌, ◌++◌, length, take, Option, ◌==◌, nat_le, nat_lt}
+use Rattle.std.specs.Prelude.{◌≡◌, ℕ, zero, suc, ◌/◌, ◌%◌, ◌^◌, ◌<◌, Bool, true, cond, ◌&&◌, List, [], ◌∷◌, ◌++◌, length, take, Option, ◌==◌, nat_le, nat_lt}
 use Rattle.std.specs.declared.cmp.Ordering.TheVariants.{Less, Equal, Greater}
 use Rattle.std.specs.declared.cmp.Ordering.{Ordering}
 use Rattle.std.proofs.Common.{subst}
@@ -21,16 +21,16 @@ bytes_of (suc w) n = bytes_of w (n / 256) ++ n % 256 ∷ []
 
 -- w bytes stand at the front
 abbrev pub spelled : ℕ → List ℕ → Bool
-spelled w bs = nat_le w (length bs) && list_all (λ b. ltb b 256) (take w bs)
+spelled w bs = nat_le w (length bs) && list_all (λ b. nat_lt b 256) (take w bs)
 
-pub under_all : (bs : List ℕ) → list_all (λ b. ltb b 256) bs ≡ true → AllBelowBase 256 bs
+pub under_all : (bs : List ℕ) → list_all (λ b. nat_lt b 256) bs ≡ true → AllBelowBase 256 bs
 under_all [] h = tt
-under_all (b ∷ bs) h = let p = and_parts (nat_lt b 256) (list_all (λ x. ltb x 256) bs) h in (ltb-true b 256 p.0, under_all bs p.1)
+under_all (b ∷ bs) h = let p = and_parts (nat_lt b 256) (list_all (λ x. nat_lt x 256) bs) h in (ltb-true b 256 p.0, under_all bs p.1)
 
 -- and they spell a number that w bytes can hold
 pub spelled_fits : (w : ℕ) (bs : List ℕ) → spelled w bs ≡ true → number_from_digits 256 (take w bs) < 256 ^ w
 spelled_fits w bs h =
-    let p = and_parts (nat_le w (length bs)) (list_all (λ b. ltb b 256) (take w bs)) h in
+    let p = and_parts (nat_le w (length bs)) (list_all (λ b. nat_lt b 256) (take w bs)) h in
     let l : length (take w bs) ≡ w = length-take-le w bs (leb-true w (length bs) p.0) in
     subst (λ n. number_from_digits 256 (take w bs) < 256 ^ n) l (number_lt 256 (take w bs) (under_all (take w bs) p.1))
 

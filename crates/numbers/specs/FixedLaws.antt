@@ -1,5 +1,5 @@
 -- Numbers of a fixed width have lawful codes.
-use Rattle.std.specs.Prelude.{◌≡◌, ℕ, zero, suc, ◌+◌, ◌*◌, ◌/◌, ◌%◌, ◌^◌, ◌<◌, ◌≤◌, true, ◌&&◌, ltb, leb, List, [], ◌∷◌, ◌++◌, length, take, drop, Some, None, nat_le, nat_lt, slice_index, refl}
+use Rattle.std.specs.Prelude.{◌≡◌, ℕ, zero, suc, ◌+◌, ◌*◌, ◌/◌, ◌%◌, ◌^◌, ◌<◌, ◌≤◌, true, ◌&&◌, List, [], ◌∷◌, ◌++◌, length, take, drop, Some, None, nat_le, nat_lt, slice_index, refl}
 use Rattle.std.proofs.Common.{sym, ap, ap₂, ◌∙◌, pow-suc, add-one, arith, length-append, take-append-drop}
 use Rattle.std.proofs.lemmas.Int.Digits.{number_push}
 use Rattle.std.proofs.ByRecursion.{All-push}
@@ -25,14 +25,14 @@ under_at [] u i = omega arith
 under_at (b ∷ bs) u zero = u.0
 under_at (b ∷ bs) u (suc i) = under_at bs u.1 i
 
-all_under : (bs : List ℕ) → AllBelowBase 256 bs → list_all (λ b. ltb b 256) bs ≡ true
+all_under : (bs : List ℕ) → AllBelowBase 256 bs → list_all (λ b. nat_lt b 256) bs ≡ true
 all_under [] u = refl
-all_under (b ∷ bs) u = and_from (nat_lt b 256) (list_all (λ x. ltb x 256) bs) (lt-ltb b 256 u.0) (all_under bs u.1)
+all_under (b ∷ bs) u = and_from (nat_lt b 256) (list_all (λ x. nat_lt x 256) bs) (lt-ltb b 256 u.0) (all_under bs u.1)
 
-all_typed : (w : ℕ) (bs : List ℕ) → ((i : ℕ) → slice_index bs i < 256) → list_all (λ b. ltb b 256) (take w bs) ≡ true
+all_typed : (w : ℕ) (bs : List ℕ) → ((i : ℕ) → slice_index bs i < 256) → list_all (λ b. nat_lt b 256) (take w bs) ≡ true
 all_typed zero bs f = refl
 all_typed (suc w) [] f = refl
-all_typed (suc w) (b ∷ bs) f = and_from (nat_lt b 256) (list_all (λ x. ltb x 256) (take w bs)) (lt-ltb b 256 (f 0)) (all_typed w bs (λ i. f (suc i)))
+all_typed (suc w) (b ∷ bs) f = and_from (nat_lt b 256) (list_all (λ x. nat_lt x 256) (take w bs)) (lt-ltb b 256 (f 0)) (all_typed w bs (λ i. f (suc i)))
 
 -- the bytes of a number spell it
 number_bytes_of : (w n : ℕ) → n < 256 ^ w → number_from_digits 256 (bytes_of w n) ≡ n
@@ -76,15 +76,15 @@ module _ (w : ℕ) {A : Type 0} (value : A → ℕ) (make : (n : ℕ) → n < 25
       let code = bytes_of w (value x) in
       let n = length_bytes_of w (value x) in
       let t : take w (code ++ rest) ≡ code = take_at code rest w n in
-      let long : leb w (length (code ++ rest)) ≡ true = le-leb w _ (omega (arith, n, length-append code rest)) in
-      let all : list_all (λ b. ltb b 256) (take w (code ++ rest)) ≡ true = ap (list_all (λ b. ltb b 256)) t ∙ all_under code (under_bytes_of w (value x)) in
+      let long : nat_le w (length (code ++ rest)) ≡ true = le-leb w _ (omega (arith, n, length-append code rest)) in
+      let all : list_all (λ b. nat_lt b 256) (take w (code ++ rest)) ≡ true = ap (list_all (λ b. nat_lt b 256)) t ∙ all_under code (under_bytes_of w (value x)) in
       front_is (code ++ rest) x (and_from (nat_le w (length (code ++ rest))) _ long all) (sym (ap (number_from_digits 256) t ∙ number_bytes_of w (value x) (numbered.fits x)))
       ∙ ap (λ k. Some (x, k)) (sym n)
 
   only : (bs : List ℕ) (x : A) (n : ℕ) → fixed_front w make bs ≡ Some (x, n) → (bs ≡ bytes_of w (value x) ++ drop n bs) × (n ≡ length (bytes_of w (value x)))
   only bs x n e =
       let c = checked_from (spelled w bs) _ (x, n) e in
-      let p = and_parts (nat_le w (length bs)) (list_all (λ b. ltb b 256) (take w bs)) c.0 in
+      let p = and_parts (nat_le w (length bs)) (list_all (λ b. nat_lt b 256) (take w bs)) c.0 in
       let m : w ≡ n = ap (λ (q : A × ℕ). q.1) c.1 in
       let v : value x ≡ number_from_digits 256 (take w bs) = ap (λ (q : A × ℕ). value q.0) (sym c.1) ∙ numbered.made _ _ in
       let l : length (take w bs) ≡ w = length-take-le w bs (leb-true w (length bs) p.0) in
@@ -105,7 +105,7 @@ module _ (w : ℕ) {A : Type 0} (value : A → ℕ) (make : (n : ℕ) → n < 25
 
 -- with fewer than w bytes there is no code
 pub short_front : {A : Type 0} (w : ℕ) (make : (n : ℕ) → n < 256 ^ w → A) (bs : List ℕ) → length bs < w → fixed_front w make bs ≡ None
-short_front w make bs h = checked_none (spelled w bs) _ (ap (λ t. t && list_all (λ b. ltb b 256) (take w bs)) (lt-leb w (length bs) h))
+short_front w make bs h = checked_none (spelled w bs) _ (ap (λ t. t && list_all (λ b. nat_lt b 256) (take w bs)) (lt-leb w (length bs) h))
 
 -- what the program's readers of two and of four bytes give
 pub two_bytes : (bs : List ℕ) → 2 ≤ length bs → number_from_digits 256 (take 2 bs) ≡ slice_index bs 0 * 256 + slice_index bs 1

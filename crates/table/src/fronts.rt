@@ -1,6 +1,6 @@
 // The walks over the first `size` of more cells, which leave the others alone.
 ghost use Rattle.std.specs.Prelude.{◌≡◌, ◌<◌, ◌≤◌, ◌++◌, length, take, drop, replicate, Some, None};
-ghost use Rattle.layout.specs.Cells.{at as in_Cell, filled, layout, records_of};
+ghost use Rattle.layout.specs.Cells.{at as in_cell, filled, layout, records_of};
 ghost use Rattle.maps.specs.Maps.{kinds_of};
 ghost use Rattle.table.specs.Rows.{Cells, Finds, held_by, row_key, row_order, row_rule, cells_with, cells_without};
 
@@ -49,7 +49,7 @@ pub fn remove_front<K: Key, V: Value>(
     requires few { length (take size cells.old) ≤ 1024 }
     requires sound { Cells (kinds_of K.Key.kind V.Value.kind) seed (take size cells.old) }
     requires inside { place < length (take size cells.old) }
-    requires there { in_Cell (take size cells.old) place ≡ Some old }
+    requires there { in_cell (take size cells.old) place ≡ Some old }
     ensures { cells.new ≡ cells_without (kinds_of K.Key.kind V.Value.kind) seed (row_key (kinds_of K.Key.kind V.Value.kind) old) (take size cells.old) ++ drop size cells.old }
 {
     remove::<K, V>(&mut cells[..size], seed, place, old);

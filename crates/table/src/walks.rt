@@ -1,6 +1,6 @@
 // The walks over cells that are a layout. A caller shows that they are, and that one of them is empty.
 ghost use Rattle.std.specs.Prelude.{◌≡◌, ◌<◌, ◌≤◌, length, replicate, Some, None};
-ghost use Rattle.layout.specs.Cells.{at as in_Cell, filled, layout, records_of};
+ghost use Rattle.layout.specs.Cells.{at as in_cell, filled, layout, records_of};
 ghost use Rattle.maps.specs.Maps.{kinds_of};
 ghost use Rattle.table.specs.Rows.{Cells, Finds, held_by, row_key, row_order, row_rule, cells_with, cells_without};
 
@@ -86,7 +86,7 @@ pub fn remove<K: Key, V: Value>(
     requires few { length cells.old ≤ 1024 }
     requires sound { Cells (kinds_of K.Key.kind V.Value.kind) seed cells.old }
     requires within { place < length cells.old }
-    requires there { in_Cell cells.old place ≡ Some old }
+    requires there { in_cell cells.old place ≡ Some old }
     ensures { cells.new ≡ cells_without (kinds_of K.Key.kind V.Value.kind) seed (row_key (kinds_of K.Key.kind V.Value.kind) old) cells.old }
 {
     let size = cells.len();
