@@ -139,7 +139,7 @@ pub fn run_sheet<K: Key, V: Value>(
     count: usize,
     capacity: usize,
 ) -> Result<usize, SheetFault>
-    ensures { SheetRun (kinds_of K.Key.kind V.Value.kind) seed count capacity sheet.now (record { cells = cells.entry.now; scratch = scratch.old; answers = answers.old }) (record { cells = cells.exit.now; scratch = scratch.new; answers = answers.new }) result }
+    ensures { SheetRun (kinds_of K.Key.kind V.Value.kind) seed count capacity sheet.now (record { cells = cells.old; scratch = scratch.old; answers = answers.old }) (record { cells = cells.new; scratch = scratch.new; answers = answers.new }) result }
 {
     let fault = refusal::<K, V>(
         cells,
