@@ -5,7 +5,9 @@ usage: respell.py, at the top of the repository, once, behind the kit's port.py
 
 A name of specs/ or proofs/ that is written with dashes gets underscores; the name of a type gets capitals in place of its
 dashes. A dash before an operator stays. The names that Rattle makes (goals, steps), those of Rust items and those that a
-file imports from a library stay. Comments change only between backquotes. It prints each name that would meet another.
+file imports from a library stay. Comments change only between backquotes. It prints names with dashes that would
+meet one another, and a new spelling that its file has already. It does not see that a name elsewhere, written without
+dashes, is spelled like a new one.
 """
 
 import glob
