@@ -1,9 +1,11 @@
--- The row of a text, from its bytes with zeros behind them.
-use Rattle.std.proofs.Common.{◌≡◌, ℕ, zero, suc, ◌+◌, ◌/◌, ◌<◌, List, [], ◌∷◌, ◌++◌, length, get_or, take, drop, replicate, refl, ap, ◌∙◌, arith}
-use Rattle.std.proofs.lemmas.List.{get_or-take, get_or-drop, drop-drop}
+-- The row of a text, from its bytes with zeros behind them, and the text of a row.
+use Rattle.std.proofs.Common.{◌≡◌, ℕ, zero, suc, ◌+◌, ◌/◌, ◌<◌, List, [], ◌∷◌, ◌++◌, length, get_or, take, drop, replicate, refl, ap, ap₂, ◌∙◌, arith, length-take}
+use Rattle.std.proofs.lemmas.List.{get_or-take, get_or-drop, drop-drop, take_min}
 use Rattle.std.specs.Int.{from_be_bytes, w64}
 use Rattle.std.specs.Simd.{first_chunks}
-use Rattle.text.specs.Words.{row_of, word_at, packed}
+use Rattle.text.specs.Rows.{row_text}
+use Rattle.text.specs.Words.{row_of, word_at, unpacked, packed}
+use Rattle.text.specs.declared.row.TextRow.{TextRow}
 
 zero_at : (n i : ℕ) → ◌≡◌ {A = ℕ} (get_or (replicate n 0) i 0) 0
 zero_at zero i = refl
@@ -47,3 +49,6 @@ module _ (xs bytes : List ℕ) (same : (i : ℕ) → get_or bytes i 0 ≡ get_or
       let b : middle ≡ word_at xs 8 = m ∙ word 1 ∙ word_from 8 in
       let c : tail ≡ word_at xs 16 = t ∙ word 2 ∙ ap (λ bs. from_be_bytes w64 (take 8 bs)) (drop-drop 8 8 bytes) ∙ word_from 16 in
       λ i. row_of (length xs) (a i) (b i) (c i)
+
+pub text_taken : (r : TextRow) (n : ℕ) (bytes : List ℕ) → n ≡ length (row_text r) → bytes ≡ unpacked r → take n bytes ≡ row_text r
+text_taken r n bytes e is = ap₂ take e is ∙ ap (λ k. take k (unpacked r)) (length-take r.len (unpacked r)) ∙ take_min r.len (unpacked r)

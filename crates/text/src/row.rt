@@ -1,8 +1,11 @@
 // What lent memory holds of a text key: plain data, which need not be a key's. Nothing here knows of letters.
-ghost use Rattle.std.specs.Prelude.{◌≡◌, ◌≤◌, IsTrue, length};
+ghost use Rattle.std.specs.Prelude.{◌≡◌, ◌<◌, ◌≤◌, IsTrue, length, slice_index};
 ghost use Rattle.std.specs.List.{list_all};
-ghost use Rattle.text.specs.Rows.{is_zero, right_length, row_front};
+ghost use Rattle.text.specs.Rows.{is_zero, right_length, row_text, row_code, row_order, row_hash, row_front};
 ghost use Rattle.text.specs.Words.{unpacked, packed};
+
+use crate::fnv::fnv1a;
+use std::cmp::Ordering;
 
 // The length, and 24 bytes in three words, of each word the highest byte first.
 #[derive(Clone, Copy, PartialEq, Eq, Debug)]
@@ -54,6 +57,41 @@ impl TextRow {
         bytes[8..16].copy_from_slice(&self.middle.to_be_bytes());
         bytes[16..].copy_from_slice(&self.tail.to_be_bytes());
         bytes
+    }
+
+    // How many of the bytes are the text's.
+    pub(crate) fn text_len(&self) -> usize
+        ensures { result ≡ length (row_text self.now) }
+    {
+        usize::from(self.len).min(24)
+    }
+
+    // The byte of the code at i: the length, then the text.
+    pub(crate) fn code_at(&self, i: usize) -> u8
+        requires { i < length (row_code self.now) }
+        ensures { result ≡ slice_index (row_code self.now) i }
+    {
+        match i {
+            0 => self.len,
+            _ => self.bytes()[i - 1],
+        }
+    }
+
+    // Byte by byte, a beginning before its continuation.
+    pub(crate) fn compare(&self, other: &TextRow) -> Ordering
+        ensures { result ≡ row_order self.now other.now }
+    {
+        let these = self.bytes();
+        let those = other.bytes();
+        these[..self.text_len()].cmp(&those[..other.text_len()])
+    }
+
+    // FNV-1a of the text, without its length.
+    pub(crate) fn hash(&self, seed: u32) -> u32
+        ensures { result ≡ row_hash seed self.now }
+    {
+        let bytes = self.bytes();
+        fnv1a(seed, &bytes[..self.text_len()])
     }
 
     // The row of the text that stands whole behind its length byte, of 1 to 24 bytes.

@@ -8,7 +8,6 @@ ghost use Rattle.text.specs.KeysLemmas.{text_laws};
 
 use super::TextKey;
 use super::letters::keep_all;
-use crate::fnv::fnv1a;
 use crate::row::{TextRow, all_zero, is_length};
 use kinds::code::NoCode;
 use kinds::key::Key;
@@ -41,28 +40,19 @@ impl Key for TextKey {
         self.len() + 1
     }
 
-    // The length, then the text.
     fn code_at(&self, i: usize) -> u8 {
-        match i {
-            0 => self.row.len,
-            _ => self.row.bytes()[i - 1],
-        }
+        self.row.code_at(i)
     }
 
-    // Byte by byte, a beginning before its continuation.
     fn compare(&self, other: &TextKey) -> Ordering
         ensures order { result ≡ text_kind.order self.now other.now }
         ensures lexical { Lexical (text self.now) (text other.now) result }
     {
-        let these = self.row.bytes();
-        let those = other.row.bytes();
-        these[..self.len()].cmp(&those[..other.len()])
+        self.row.compare(&other.row)
     }
 
-    // FNV-1a of the text, without its length.
     fn hash(&self, seed: u32) -> u32 {
-        let bytes = self.row.bytes();
-        fnv1a(seed, &bytes[..self.len()])
+        self.row.hash(seed)
     }
 
     fn to_row(&self) -> TextRow {

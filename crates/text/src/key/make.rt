@@ -12,7 +12,7 @@ impl TextKey {
     pub fn len(&self) -> usize
         ensures { result ≡ length (text self.now) }
     {
-        usize::from(self.row.len)
+        self.row.text_len()
     }
 
     // The key of the bytes, small letters turned.
