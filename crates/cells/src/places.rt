@@ -50,8 +50,8 @@ fn is_out_of_place<K: Key, V: Value>(
     }
 }
 
-// The lowest cell that is not in place. In cells of rows that are all keys', it is the lowest that is not where their
-// keys have it (`Lent.first_out_lent` in proofs/).
+// The lowest cell that is not in place. Where each row is a key's, it is the lowest out of place among the keys, too:
+// `first_out_lent` in proofs/Lent.antt.
 pub fn first_out_of_place<K: Key, V: Value>(
     cells: &[Option<Record<K::Row, V>>],
     seed: u32,
