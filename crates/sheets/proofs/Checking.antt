@@ -1,5 +1,5 @@
 -- the tests that tell a layout
-use Rattle.std.proofs.Common.{◌≡◌, ℕ, zero, suc, ◌+◌, ◌-◌, ◌^◌, ◌<◌, ◌≤◌, Bool, true, false, cond, List, [], ◌∷◌, ◌++◌, map, length, get_or, take, drop, replicate, is_some, Some, None, Decides, Option, sym, refl, ap, ◌∙◌, subst, inl, inr, arith}
+use Rattle.std.proofs.Common.{◌≡◌, ℕ, ◌+◌, ◌-◌, ◌^◌, ◌<◌, ◌≤◌, Bool, true, false, cond, List, [], ◌∷◌, ◌++◌, map, length, get_or, take, drop, replicate, is_some, Some, None, Decides, Option, sym, refl, ap, ◌∙◌, subst, inl, inr, arith}
 use Rattle.std.proofs.lemmas.List.{get_or_default, take-append-drop, length-take-le, length-drop, length-map}
 use Rattle.std.specs.List.{count_by, list_all}
 use Rattle.std.proofs.lemmas.List.Sums.{AllPass-from_list_all, list_all-from_AllPass}
@@ -18,7 +18,6 @@ use Rattle.layout.proofs.Layouts.{own_layout, sound_distinct}
 use Rattle.layout.proofs.Orders.{all_from_in}
 use Rattle.layout.proofs.Places.{first_out_none}
 use Rattle.layout.proofs.Records.{some_inside, Distinct, distinct, records_in, records_count, records_ascending}
-use Rattle.layout.proofs.Tests.{some_none}
 use Rattle.layout.proofs.Views.{unseen, ascending_unseen, hash_some_small}
 use Rattle.maps.specs.Maps.{Kinds, record_order, lent}
 use Rattle.sheets.specs.Checks.{cell_keyed, Keyed}

@@ -14,7 +14,7 @@ use maps::{Answer, Command};
 use table::commands::run;
 
 // Why a sheet is refused.
-#[derive(Clone, Copy)]
+#[derive(Clone, Copy, PartialEq, Eq, Debug)]
 pub enum SheetFault {
     // A command's row is no key's.
     Kind,
@@ -38,25 +38,16 @@ impl SheetFault {
     pub fn place(self) -> usize
         ensures { result ≡ fault_place self }
     {
-        match self {
-            SheetFault::Kind => 0,
-            SheetFault::Lent => 0,
-            SheetFault::Cells => 0,
-        }
+        0 // whatever the fault
     }
 }
 
 fn all_rows_keyed<K: Key, V: Value>(sheet: &[Command<K::Row, V>]) -> bool
     ensures { result ≡ all_rows_keyed (kinds_of K.Key.kind V.Value.kind) sheet.now }
 {
-    for i in 0..sheet.len() {
-        let command = sheet[i];
-        let key: Option<K> = K::from_row(command.row());
-        if key.is_none() {
-            return false;
-        }
-    }
-    true
+    sheet
+        .iter()
+        .all(|command| K::from_row(command.row()).is_some())
 }
 
 // Of the lengths that cells, scratch, sheet and answers have.
@@ -66,36 +57,29 @@ fn is_well_lent(cells: usize, scratch: usize, sheet: usize, answers: usize) -> b
     cells == 1024 && scratch == 1024 && sheet <= 64 && sheet <= answers
 }
 
-// The refusal that a sheet demands, if any.
-fn refusal<K: Key, V: Value>(
+// Whether a sheet may run, and else why not.
+fn check<K: Key, V: Value>(
     cells: &[Option<Record<K::Row, V>>],
     spare: usize,
     sheet: &[Command<K::Row, V>],
     room: usize,
     shape: Shape,
-) -> Option<SheetFault>
+) -> Result<(), SheetFault>
     ensures { Judged (all_rows_keyed (kinds_of K.Key.kind V.Value.kind) sheet.now) (well_lent (length cells.now) spare (length sheet.now) room) (IsTable (kinds_of K.Key.kind V.Value.kind) shape.seed shape.count shape.capacity cells.now) result }
 {
     if !all_rows_keyed::<K, V>(sheet) {
-        return Some(SheetFault::Kind);
+        return Err(SheetFault::Kind);
     }
     if !is_well_lent(cells.len(), spare, sheet.len(), room) {
-        return Some(SheetFault::Lent);
+        return Err(SheetFault::Lent);
     }
     if !is_layout::<K, V>(cells, shape) {
-        return Some(SheetFault::Cells);
+        return Err(SheetFault::Cells);
     }
-    None
+    Ok(())
 }
 
-fn clear<R: Copy>(cells: &mut [Option<R>])
-    ensures { cells.new ≡ replicate (length cells.old) None }
-{
-    for i in 0..cells.len() {
-        cells[i] = None;
-    }
-}
-
+// Written in `run_all` itself, the proof that the place of an enum of a parameter fits into an address doesn't close.
 fn write_answer<T: Copy>(answers: &mut [T], i: usize, answer: T)
     requires { i < length answers.old }
     ensures { answers.new ≡ slice_set answers.old i answer }
@@ -119,9 +103,9 @@ fn run_all<K: Key, V: Value>(
     ensures { RunsAll (kinds_of K.Key.kind V.Value.kind) seed count sheet.now cells.old answers.old result cells.new scratch.new answers.new }
 {
     let mut held = count;
-    for i in 0..sheet.len() {
-        let command = sheet[i];
-        let (answer, after) = run::<K, V>(cells, scratch, seed, held, command);
+    // `zip` with `iter_mut` would leave no fact of what was written.
+    for (i, command) in sheet.iter().enumerate() {
+        let (answer, after) = run::<K, V>(cells, scratch, seed, held, *command);
         write_answer(answers, i, answer);
         held = after;
     }
@@ -138,12 +122,7 @@ pub fn run_sheet<K: Key, V: Value>(
 ) -> Result<usize, SheetFault>
     ensures { SheetRun (kinds_of K.Key.kind V.Value.kind) shape.seed shape.count shape.capacity sheet.now (record { cells = cells.old; scratch = scratch.old; answers = answers.old }) (record { cells = cells.new; scratch = scratch.new; answers = answers.new }) result }
 {
-    let fault = refusal::<K, V>(cells, scratch.len(), sheet, answers.len(), shape);
-    match fault {
-        Some(why) => Err(why),
-        None => {
-            clear(scratch);
-            Ok(run_all::<K, V>(cells, scratch, sheet, answers, shape.seed, shape.count))
-        }
-    }
+    check::<K, V>(cells, scratch.len(), sheet, answers.len(), shape)?;
+    scratch.fill(None);
+    Ok(run_all::<K, V>(cells, scratch, sheet, answers, shape.seed, shape.count))
 }

@@ -1,6 +1,6 @@
 use Rattle.std.proofs.Common.{sym, ◌∙◌}
 use Rattle.std.proofs.lemmas.Bool.{both_ways}
-use Rattle.sheets.proofs.sheet.refusal.Goals as goal
+use Rattle.sheets.proofs.sheet.check.Goals as goal
 
 pub returns-then-not-is_layout : goal.returns-then-not-is_layout
 returns-then-not-is_layout g c =
