@@ -124,11 +124,9 @@ pub fn gather<K: Key, V: Value>(
     requires empty { into.old ≡ replicate (length into.old) None }
     ensures { into.new ≡ layout (row_rule (kinds_of K.Key.kind V.Value.kind) seed (length into.old)) (records_of (row_order (kinds_of K.Key.kind V.Value.kind)) from.now) }
 {
-    for i in 0..from.len() {
-        let cell = from[i];
-        match cell {
-            None => {}
-            Some(record) => insert::<K, V>(into, seed, record),
+    for cell in from {
+        if let Some(record) = cell {
+            insert::<K, V>(into, seed, *record);
         }
     }
 }
