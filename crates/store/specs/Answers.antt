@@ -1,16 +1,11 @@
 -- What a store answers, and what it shows after a write.
-use Rattle.std.specs.Prelude.{ℕ, Bool, cond, List, Some, None, Ok, Err, Result, nat_lt, slice_index_or, slice_set}
+use Rattle.std.specs.Prelude.{ℕ, Bool, cond, List, Some, None, nat_lt, slice_index_or, slice_set}
 use Rattle.store.specs.Places.{Place}
 
 -- something given, or a refusal by its number and the block that was asked for
 pub data Answer (A : Type 0) : Type 0 where
   given : A → Answer A
   refused : ℕ → ℕ → Answer A
-
--- what a result tells, where a fault is known by its number and its block alone
-abbrev pub told : {A F : Type 0} → (F → ℕ) → (F → ℕ) → Result A F → Answer A
-told number block (Ok a) = Answer.given a
-told number block (Err f) = Answer.refused (number f) (block f)
 
 abbrev pub out_of_range : {A : Type 0} → ℕ → Answer A
 out_of_range i = Answer.refused 13 i
@@ -28,6 +23,10 @@ place_answer i None = unreadable i
 -- a read of block i
 abbrev pub read_answer : ℕ → List Place → ℕ → Answer (List ℕ)
 read_answer count shown i = cond (nat_lt i count) (place_answer i (slice_index_or shown i None)) (out_of_range i)
+
+-- whether there is a block i
+abbrev pub range_answer : ℕ → ℕ → Answer (Unit {0})
+range_answer count i = cond (nat_lt i count) (Answer.given tt) (out_of_range i)
 
 -- a write of block i
 abbrev pub write_answer : ℕ → Bool → ℕ → Answer (Unit {0})

@@ -1,5 +1,4 @@
 ghost use Rattle.std.specs.Prelude.{◌≡◌, ◌+◌, ◌≤◌, length};
-ghost use Rattle.std.specs.Str.{bytes_eq};
 ghost use Rattle.store.specs.Lent.{block_at, overwritten};
 
 use crate::store::Block;
@@ -19,10 +18,4 @@ pub(crate) fn save(bytes: &mut [u8], start: usize, new: &[u8])
 {
     let end = start + new.len();
     bytes[start..end].copy_from_slice(new);
-}
-
-pub(crate) fn same(a: &[u8], b: &[u8]) -> bool
-    ensures { result ≡ bytes_eq a.now b.now }
-{
-    a == b
 }

@@ -1,6 +1,7 @@
 // Stores of blocks: what a store is, and two base stores over lent bytes.
 #![tactic(auto)]
 
+mod asked;
 mod bytes;
 pub mod checked;
 pub mod fault;
