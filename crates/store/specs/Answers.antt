@@ -1,11 +1,16 @@
 -- What a store answers, and what it shows after a write.
-use Rattle.std.specs.Prelude.{ℕ, Bool, cond, List, Some, None, nat_lt, slice_index_or, slice_set}
+use Rattle.std.specs.Prelude.{ℕ, Bool, cond, List, Some, None, Ok, Err, Result, nat_lt, slice_index_or, slice_set}
 use Rattle.store.specs.Places.{Place}
 
 -- something given, or a refusal by its number and the block that was asked for
 pub data Answer (A : Type 0) : Type 0 where
   given : A → Answer A
   refused : ℕ → ℕ → Answer A
+
+-- what a result tells, where a fault is known by its number and its block alone
+abbrev pub told : {A F : Type 0} → (F → ℕ) → (F → ℕ) → Result A F → Answer A
+told number block (Ok a) = Answer.given a
+told number block (Err f) = Answer.refused (number f) (block f)
 
 abbrev pub out_of_range : {A : Type 0} → ℕ → Answer A
 out_of_range i = Answer.refused 13 i

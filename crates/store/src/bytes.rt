@@ -3,7 +3,8 @@ ghost use Rattle.store.specs.Lent.{block_at, overwritten};
 
 use crate::store::Block;
 
-pub(crate) fn load(bytes: &[u8], start: usize) -> Block
+// The block that lies in bytes from a start on.
+pub fn block_at(bytes: &[u8], start: usize) -> Block
     requires { start + 32 ≤ length bytes.now }
     ensures { result ≡ block_at bytes.now start }
 {
@@ -12,7 +13,8 @@ pub(crate) fn load(bytes: &[u8], start: usize) -> Block
     block
 }
 
-pub(crate) fn save(bytes: &mut [u8], start: usize, new: &[u8])
+// Writes over bytes from a start on.
+pub fn overwrite(bytes: &mut [u8], start: usize, new: &[u8])
     requires { start + length new.now ≤ length bytes.old }
     ensures { bytes.new ≡ overwritten bytes.old start new.now }
 {

@@ -1,10 +1,10 @@
 ghost use Rattle.std.specs.Prelude.{◌≡◌, ◌*◌, ◌<◌, ◌++◌, length, drop, Some, None, slice_index_or, slice_set};
 ghost use Rattle.store.specs.Answers.{write_answer, shown_after, after_write};
 ghost use Rattle.store.specs.Lent.{overwritten};
-ghost use Rattle.store.specs.Told.{told};
+ghost use Rattle.store.specs.Told.{tells};
 ghost use Rattle.store.specs.Sums.{sums, sums_more, checked_place, checked_count, checked_places, checked_lengths};
 
-use crate::bytes::{load, save};
+use crate::bytes::{block_at, overwrite};
 use crate::fault::{BlockFault, StoreFault, readable, writable};
 use crate::store::{Block, Store};
 
@@ -54,7 +54,7 @@ fn right_block(part: &[u8]) -> Option<Block>
     requires { length part.now ≡ 34 }
     ensures { result ≡ checked_place part.now }
 {
-    let block = load(part, 0);
+    let block = block_at(part, 0);
     let sums = fletcher(&block);
     if part[32..34] == sums[..] {
         Some(block)
@@ -77,9 +77,9 @@ fn with_sums(block: &Block) -> [u8; 34]
     ensures { result ≡ block.now ++ sums block.now }
 {
     let mut part = [0; 34];
-    save(&mut part, 0, block);
+    overwrite(&mut part, 0, block);
     let sums = fletcher(block);
-    save(&mut part, 32, &sums);
+    overwrite(&mut part, 32, &sums);
     part
 }
 
@@ -91,7 +91,7 @@ fn put_block(bytes: &mut [u8], i: usize, block: &Block)
     ensures tail { drop (checked_count bytes.old * 34) bytes.new ≡ drop (checked_count bytes.old * 34) bytes.old }
 {
     let part = with_sums(block);
-    save(bytes, i * 34, &part);
+    overwrite(bytes, i * 34, &part);
 }
 
 impl Store for CheckedStore<'_> {
@@ -123,7 +123,7 @@ impl Store for CheckedStore<'_> {
     // What the trait asks, then which of the lent bytes change: those of the block and its sums alone, and none past
     // the last whole 34 bytes.
     fn write(&mut self, i: usize, block: &Block) -> Result<(), StoreFault>
-        ensures answer { told ⟦<StoreFault as BlockFault>⟧ result ≡ write_answer (checked_count self.old.bytes.now) self.old.locked i }
+        ensures answer { tells ⟦<StoreFault as BlockFault>⟧ result ≡ write_answer (checked_count self.old.bytes.now) self.old.locked i }
         ensures count { checked_count self.new.bytes.now ≡ checked_count self.old.bytes.now }
         ensures protect { self.new.locked ≡ self.old.locked }
         ensures shows { checked_places self.new.bytes.now ≡ shown_after (checked_count self.old.bytes.now) self.old.locked (checked_places self.old.bytes.now) i block.now }

@@ -2,7 +2,7 @@
 #![tactic(auto)]
 
 mod asked;
-mod bytes;
+pub mod bytes;
 pub mod checked;
 pub mod fault;
 pub mod laws;
