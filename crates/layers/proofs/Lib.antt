@@ -1,3 +1,4 @@
+pub mod Mapped
 pub mod Offsets
 pub mod Mirrors
 pub mod Ruled
