@@ -1,4 +1,3 @@
-pub mod Mapped
 pub mod Offsets
 pub mod Mirrors
 pub mod Ruled

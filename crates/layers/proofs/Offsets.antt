@@ -9,7 +9,7 @@ use Rattle.store.specs.Faults.{fault_number, fault_block}
 use Rattle.store.specs.Told.{tells}
 use Rattle.store.specs.declared.fault.BlockFault.{Ghosts}
 use Rattle.store.specs.declared.fault.StoreFault.TheVariants.{Unreadable, Protected}
-use Rattle.layers.proofs.Mapped.{as_fault}
+use Rattle.store.proofs.Mapped.{as_fault}
 use Rattle.store.proofs.Rows.{get_or_places, set_places}
 use Rattle.store.proofs.Told.{read_block, read_fault, gives_block, gives_fault, taken, taken_answer, not_taken, refused_answer, write_given, write_refused}
 

@@ -2,7 +2,7 @@ use Rattle.std.proofs.Common.{ap, ◌∙◌, rules}
 use Rattle.store.specs.Answers.{told}
 use Rattle.store.specs.Faults.{fault_number, fault_block}
 use Rattle.store.specs.declared.fault.StoreFault.TheVariants.{Unreadable}
-use Rattle.layers.proofs.Mapped.{mapped}
+use Rattle.store.proofs.Mapped.{mapped}
 use Rattle.layers.proofs.Offsets.{offset_read}
 use Rattle.layers.proofs.offset.Offset.read_at.Goals as goal
 

@@ -2,7 +2,7 @@ use Rattle.std.proofs.Common.{ap, ◌∙◌, rules}
 use Rattle.store.specs.Answers.{told}
 use Rattle.store.specs.Faults.{fault_number, fault_block}
 use Rattle.store.specs.declared.fault.StoreFault.TheVariants.{Protected}
-use Rattle.layers.proofs.Mapped.{mapped}
+use Rattle.store.proofs.Mapped.{mapped}
 use Rattle.layers.proofs.Offsets.{offset_answer, offset_below, offset_after}
 use Rattle.layers.proofs.offset.Offset.write_at.Goals as goal
 
