@@ -5,4 +5,5 @@ pub mod Told
 pub mod Stores
 pub mod Lent
 pub mod Sums
+pub mod Summed
 pub mod Laws
