@@ -1,6 +1,6 @@
 ghost use Rattle.std.specs.Prelude.{◌≡◌, ◌<◌, false, Some, slice_set};
-ghost use Rattle.store.specs.Answers.{place_answer, read_answer, write_answer, shown_after};
-ghost use Rattle.store.specs.Stores.{Fixed, Writes, Flushes};
+ghost use Rattle.store.specs.Answers.{place_answer};
+ghost use Rattle.store.specs.Stores.{read_told, write_told, once_written, Fixed, Writes, Flushes};
 ghost use Rattle.store.specs.Told.{tells};
 ghost use Rattle.layers.specs.Layered.{both_count, either_protected, both_shown, both_kept};
 ghost use Rattle.layers.specs.Layers.{place_of, agreed, mirror_lengths};
@@ -43,7 +43,7 @@ impl<L: Store, R: Store> Mirror<L, R> {
     // Block `i`, which both halves have.
     fn read_both(&self, i: usize) -> Result<Block, StoreFault>
         requires { i < both_count L.Store R.Store self.now }
-        ensures { tells ⟦<StoreFault as BlockFault>⟧ result ≡ read_answer (both_count L.Store R.Store self.now) (both_shown L.Store R.Store self.now) i }
+        ensures { tells ⟦<StoreFault as BlockFault>⟧ result ≡ read_told ⟦<Mirror<L, R> as Store>⟧ self.now i }
     {
         agree(i, self.left.read(i), self.right.read(i))
     }
@@ -97,10 +97,10 @@ impl<L: Store, R: Store> Store for Mirror<L, R> {
 
     // What the trait asks, then that the write goes to both halves, or to none.
     fn write(&mut self, i: usize, block: &Block) -> Result<(), StoreFault>
-        ensures answer { tells ⟦<StoreFault as BlockFault>⟧ result ≡ write_answer (both_count L.Store R.Store self.old) (either_protected L.Store R.Store self.old) i }
+        ensures answer { tells ⟦<StoreFault as BlockFault>⟧ result ≡ write_told ⟦<Mirror<L, R> as Store>⟧ self.old i }
         ensures writes { Writes ⟦<Mirror<L, R> as Store>⟧ i block.now self.old self.new }
-        ensures left { L.Store.shown self.new.left ≡ shown_after (both_count L.Store R.Store self.old) (either_protected L.Store R.Store self.old) (L.Store.shown self.old.left) i block.now }
-        ensures right { R.Store.shown self.new.right ≡ shown_after (both_count L.Store R.Store self.old) (either_protected L.Store R.Store self.old) (R.Store.shown self.old.right) i block.now }
+        ensures left { L.Store.shown self.new.left ≡ once_written ⟦<Mirror<L, R> as Store>⟧ self.old i (L.Store.shown self.old.left) (slice_set (L.Store.shown self.old.left) i (Some block.now)) }
+        ensures right { R.Store.shown self.new.right ≡ once_written ⟦<Mirror<L, R> as Store>⟧ self.old i (R.Store.shown self.old.right) (slice_set (R.Store.shown self.old.right) i (Some block.now)) }
     {
         writable(i, self.count(), self.protected())?;
         self.write_both(i, block);

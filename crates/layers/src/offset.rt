@@ -1,6 +1,5 @@
 ghost use Rattle.std.specs.Prelude.{◌≡◌, ◌+◌, Some, slice_set};
-ghost use Rattle.store.specs.Answers.{read_answer, write_answer, after_write};
-ghost use Rattle.store.specs.Stores.{Writes, Flushes};
+ghost use Rattle.store.specs.Stores.{read_told, write_told, once_written, Writes, Flushes};
 ghost use Rattle.store.specs.Told.{tells};
 ghost use Rattle.layers.specs.Layered.{window_count, window_shown, window_kept};
 ghost use Rattle.layers.specs.Layers.{offset_place, offset_lengths};
@@ -43,7 +42,7 @@ impl<S: Store> Offset<S> {
     // Block `i`, which lies at `at` below.
     fn read_at(&self, i: usize, at: usize) -> Result<Block, StoreFault>
         requires { Some at ≡ offset_place self.now.first self.now.wished (S.Store.count self.now.below) i }
-        ensures { tells ⟦<StoreFault as BlockFault>⟧ result ≡ read_answer (window_count S.Store self.now) (window_shown S.Store self.now) i }
+        ensures { tells ⟦<StoreFault as BlockFault>⟧ result ≡ read_told ⟦<Offset<S> as Store>⟧ self.now i }
     {
         self.below.read(at).map_err(|_| StoreFault::Unreadable(i))
     }
@@ -51,9 +50,9 @@ impl<S: Store> Offset<S> {
     // Writes block `i`, which lies at `at` below.
     fn write_at(&mut self, i: usize, at: usize, block: &Block) -> Result<(), StoreFault>
         requires { Some at ≡ offset_place self.old.first self.old.wished (S.Store.count self.old.below) i }
-        ensures answer { tells ⟦<StoreFault as BlockFault>⟧ result ≡ write_answer (window_count S.Store self.old) (S.Store.protected self.old.below) i }
+        ensures answer { tells ⟦<StoreFault as BlockFault>⟧ result ≡ write_told ⟦<Offset<S> as Store>⟧ self.old i }
         ensures writes { Writes ⟦<Offset<S> as Store>⟧ i block.now self.old self.new }
-        ensures below { S.Store.shown self.new.below ≡ after_write (window_count S.Store self.old) (S.Store.protected self.old.below) i (S.Store.shown self.old.below) (slice_set (S.Store.shown self.old.below) (self.old.first + i) (Some block.now)) }
+        ensures below { S.Store.shown self.new.below ≡ once_written ⟦<Offset<S> as Store>⟧ self.old i (S.Store.shown self.old.below) (slice_set (S.Store.shown self.old.below) (self.old.first + i) (Some block.now)) }
         ensures first { self.new.first ≡ self.old.first }
         ensures wished { self.new.wished ≡ self.old.wished }
     {
@@ -92,9 +91,9 @@ impl<S: Store> Store for Offset<S> {
 
     // What the trait asks, then that no other block below changes.
     fn write(&mut self, i: usize, block: &Block) -> Result<(), StoreFault>
-        ensures answer { tells ⟦<StoreFault as BlockFault>⟧ result ≡ write_answer (window_count S.Store self.old) (S.Store.protected self.old.below) i }
+        ensures answer { tells ⟦<StoreFault as BlockFault>⟧ result ≡ write_told ⟦<Offset<S> as Store>⟧ self.old i }
         ensures writes { Writes ⟦<Offset<S> as Store>⟧ i block.now self.old self.new }
-        ensures below { S.Store.shown self.new.below ≡ after_write (window_count S.Store self.old) (S.Store.protected self.old.below) i (S.Store.shown self.old.below) (slice_set (S.Store.shown self.old.below) (self.old.first + i) (Some block.now)) }
+        ensures below { S.Store.shown self.new.below ≡ once_written ⟦<Offset<S> as Store>⟧ self.old i (S.Store.shown self.old.below) (slice_set (S.Store.shown self.old.below) (self.old.first + i) (Some block.now)) }
         ensures first { self.new.first ≡ self.old.first }
         ensures wished { self.new.wished ≡ self.old.wished }
     {

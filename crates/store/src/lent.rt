@@ -1,7 +1,6 @@
 ghost use Rattle.std.specs.Prelude.{◌≡◌, ◌*◌, ◌<◌, drop, Some, None, slice_index_or, slice_set};
-ghost use Rattle.store.specs.Answers.{write_answer, after_write};
 ghost use Rattle.store.specs.Lent.{overwritten, lent_count, lent_places, lent_lengths};
-ghost use Rattle.store.specs.Stores.{Writes, Flushes};
+ghost use Rattle.store.specs.Stores.{write_told, once_written, Writes, Flushes};
 ghost use Rattle.store.specs.Told.{tells};
 
 use crate::fault::{BlockFault, StoreFault, readable, writable};
@@ -80,9 +79,9 @@ impl<'a, F: Frame> Store for LentStore<'a, F> {
     // What the trait asks, then which of the lent bytes change: those of the block's part alone, and none past the last
     // whole part.
     fn write(&mut self, i: usize, block: &Block) -> Result<(), StoreFault>
-        ensures answer { tells ⟦<StoreFault as BlockFault>⟧ result ≡ write_answer (lent_count F.WIDTH self.old.bytes.now) self.old.locked i }
+        ensures answer { tells ⟦<StoreFault as BlockFault>⟧ result ≡ write_told ⟦<LentStore<'a, F> as Store>⟧ self.old i }
         ensures writes { Writes ⟦<LentStore<'a, F> as Store>⟧ i block.now self.old self.new }
-        ensures bytes { self.new.bytes.now ≡ after_write (lent_count F.WIDTH self.old.bytes.now) self.old.locked i self.old.bytes.now (overwritten self.old.bytes.now (i * F.WIDTH) (F.framed block.now)) }
+        ensures bytes { self.new.bytes.now ≡ once_written ⟦<LentStore<'a, F> as Store>⟧ self.old i self.old.bytes.now (overwritten self.old.bytes.now (i * F.WIDTH) (F.framed block.now)) }
         ensures tail { drop (lent_count F.WIDTH self.old.bytes.now * F.WIDTH) self.new.bytes.now ≡ drop (lent_count F.WIDTH self.old.bytes.now * F.WIDTH) self.old.bytes.now }
         ensures named { self.new.bytes.ghost_name ≡ self.old.bytes.ghost_name }
     {

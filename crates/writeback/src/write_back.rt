@@ -1,6 +1,5 @@
 ghost use Rattle.std.specs.Prelude.{◌≡◌, ◌<◌, false, [], Some, slice_set};
-ghost use Rattle.store.specs.Answers.{read_answer, write_answer, after_write};
-ghost use Rattle.store.specs.Stores.{Fixed, Writes, Flushes};
+ghost use Rattle.store.specs.Stores.{read_told, write_told, once_written, Fixed, Writes, Flushes};
 ghost use Rattle.store.specs.Told.{tells};
 ghost use Rattle.writeback.specs.Holds.{held_list};
 ghost use Rattle.writeback.specs.Overlaid.{overlaid};
@@ -45,7 +44,7 @@ impl<S: Store> WriteBack<S> {
     // Block `i`, which the store below has.
     fn read_within(&self, i: usize) -> Result<Block, StoreFault>
         requires { i < S.Store.count self.now.below }
-        ensures { tells ⟦<StoreFault as BlockFault>⟧ result ≡ read_answer (S.Store.count self.now.below) (overlaid S.Store self.now) i }
+        ensures { tells ⟦<StoreFault as BlockFault>⟧ result ≡ read_told ⟦<WriteBack<S> as Store>⟧ self.now i }
     {
         match self.held_block(i) {
             Some(block) => Ok(block),
@@ -109,10 +108,10 @@ impl<S: Store> Store for WriteBack<S> {
     // What the trait asks, then that a refused write is not held, and that a taken one is held as the newest while the
     // longest held goes below to make way.
     fn write(&mut self, i: usize, block: &Block) -> Result<(), StoreFault>
-        ensures answer { tells ⟦<StoreFault as BlockFault>⟧ result ≡ write_answer (S.Store.count self.old.below) (S.Store.protected self.old.below) i }
+        ensures answer { tells ⟦<StoreFault as BlockFault>⟧ result ≡ write_told ⟦<WriteBack<S> as Store>⟧ self.old i }
         ensures writes { Writes ⟦<WriteBack<S> as Store>⟧ i block.now self.old self.new }
-        ensures held { held_list self.new.held ≡ after_write (S.Store.count self.old.below) (S.Store.protected self.old.below) i (held_list self.old.held) (newest_four (renewed (held_list self.old.held) record { at = i; block = block.now })) }
-        ensures below { S.Store.shown self.new.below ≡ after_write (S.Store.count self.old.below) (S.Store.protected self.old.below) i (S.Store.shown self.old.below) (overlay (S.Store.count self.old.below) (S.Store.protected self.old.below) (S.Store.shown self.old.below) (beyond_four (renewed (held_list self.old.held) record { at = i; block = block.now }))) }
+        ensures held { held_list self.new.held ≡ once_written ⟦<WriteBack<S> as Store>⟧ self.old i (held_list self.old.held) (newest_four (renewed (held_list self.old.held) record { at = i; block = block.now })) }
+        ensures below { S.Store.shown self.new.below ≡ once_written ⟦<WriteBack<S> as Store>⟧ self.old i (S.Store.shown self.old.below) (overlay (S.Store.count self.old.below) (S.Store.protected self.old.below) (S.Store.shown self.old.below) (beyond_four (renewed (held_list self.old.held) record { at = i; block = block.now }))) }
     {
         writable(i, self.count(), self.protected())?;
         self.take_write(i, block);
