@@ -3,3 +3,4 @@ pub mod Placing
 pub mod Turns
 pub mod Chain
 pub mod Ends
+pub mod Tails

@@ -10,7 +10,6 @@ use crate::bits::{capacity, check_bits};
 use crate::header::{byte_at, check_header, count_at, seed_at};
 use crate::places::check_layout;
 use crate::records::read_cells;
-use image::cell::clear;
 use image::fault::ImageFault;
 use kinds::key::Key;
 use kinds::record::Record;
@@ -19,12 +18,10 @@ use kinds::value::Value;
 fn check_tail<F>(bytes: &[u8], end: usize) -> Result<(), ImageFault<F>>
     ensures { result ≡ tail_check bytes.now end }
 {
-    for i in end..bytes.len() {
-        if bytes[i] != 0 {
-            return Err(ImageFault::Tail(i));
-        }
+    match bytes.iter().skip(end).position(|&byte| byte != 0) {
+        Some(i) => Err(ImageFault::Tail(end + i)),
+        None => Ok(()),
     }
-    Ok(())
 }
 
 // A refusal leaves any cells.
@@ -58,12 +55,10 @@ pub fn read_image<K: Key, V: Value, F>(
     ensures exact { ReadsImage (kinds_of K.Key.kind V.Value.kind) bytes.now result cells.new }
     ensures laws { ImageLaws F (kinds_of K.Key.kind V.Value.kind) }
 {
-    clear(cells);
-    match scan::<K, V, F>(bytes, cells) {
-        Ok(found) => Ok(found),
-        Err(fault) => {
-            clear(cells);
-            Err(fault)
-        }
+    cells.fill(None);
+    let answer = scan::<K, V, F>(bytes, cells);
+    if answer.is_err() {
+        cells.fill(None);
     }
+    answer
 }

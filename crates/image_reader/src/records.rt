@@ -28,10 +28,7 @@ fn record_at<K: Key, V: Value, F>(
     requires { at ≤ length bytes.now }
     ensures { result ≡ record_or at (front_of (kinds_of K.Key.kind V.Value.kind) (drop at bytes.now)) }
 {
-    match Record::<K, V>::read(&bytes[at..]) {
-        Ok(found) => Ok(found),
-        Err(_) => Err(ImageFault::Record(at)),
-    }
+    Record::<K, V>::read(&bytes[at..]).map_err(|_| ImageFault::Record(at))
 }
 
 fn put_cell<T: Copy>(cells: &mut [T], at: usize, cell: T)
