@@ -36,9 +36,10 @@ fn scan<K: Key, V: Value, F>(
     check_header::<K, V, F>(bytes)?;
     let cap = capacity(byte_at(bytes, 3));
     check_bits::<F>(bytes, cap)?;
-    let end = read_cells::<K, V, F>(bytes, cap, cells)?;
+    let layout = &mut cells[..cap];
+    let end = read_cells::<K, V, F>(bytes, layout)?;
     let seed = seed_at(bytes);
-    check_layout::<K, V, F>(&cells[..cap], seed)?;
+    check_layout::<K, V, F>(layout, seed)?;
     check_tail::<F>(bytes, end)?;
     Ok((seed, count_at(bytes)))
 }
