@@ -19,9 +19,9 @@ use Rattle.layout.proofs.Tests.{some_none}
 use Rattle.layout.proofs.Views.{unseen, ascending_unseen, hash_some_small}
 use Rattle.maps.specs.Maps.{Kinds, record_order, lent}
 use Rattle.sheets.specs.Checks.{Keyed}
-use Rattle.table.specs.Rows.{row_key, row_order, row_rule}
+use Rattle.cells.specs.Rows.{row_key, row_order, row_rule}
 use Rattle.table.specs.Runs.{Stores}
-use Rattle.table.proofs.Rules.{ordered, rows_ordered, lawful, lawful_at}
+use Rattle.cells.proofs.Rules.{ordered, rows_ordered, lawful, lawful_at}
 use Rattle.table.proofs.Maps.{opened, closed, keyed, view}
 
 -- cells none of which is filled are empty

@@ -4,7 +4,7 @@ use Rattle.kinds.specs.declared.record.Record.{Record}
 use Rattle.layout.specs.Capacity.{capacity}
 use Rattle.layout.specs.Cells.{at}
 use Rattle.maps.specs.Maps.{Kinds}
-use Rattle.table.specs.Rows.{row_key}
+use Rattle.cells.specs.Rows.{row_key}
 use Rattle.table.specs.Runs.{Stores}
 
 -- every record's row is a key's

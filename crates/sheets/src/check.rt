@@ -6,12 +6,13 @@ ghost use Rattle.maps.specs.Maps.{kinds_of};
 ghost use Rattle.sheets.specs.Checks.{Keyed, IsTable};
 ghost use Rattle.table.specs.Runs.{Stores};
 
-use crate::places::first_out_of_place;
+use cells::places::first_out_of_place;
+use cells::ring::capacity_of;
+use cells::shape::Shape;
 use kinds::key::Key;
 use kinds::record::Record;
 use kinds::value::Value;
 use table::commands::MOST_RECORDS;
-use table::ring::capacity_of;
 
 fn count_filled<R: Copy>(cells: &[Option<R>]) -> usize
     ensures { result ≡ filled cells.now }
@@ -71,23 +72,18 @@ fn holds_layout<K: Key, V: Value>(
     first_out_of_place::<K, V>(front, seed).is_none()
 }
 
-// Whether the cells are a layout of that count, capacity and seed, with all beyond the capacity empty.
-pub fn is_layout<K: Key, V: Value>(
-    cells: &[Option<Record<K::Row, V>>],
-    seed: u32,
-    count: usize,
-    capacity: usize,
-) -> bool
-    ensures { Decides result (IsTable (kinds_of K.Key.kind V.Value.kind) seed count capacity cells.now) }
+// Whether the cells are a layout of that shape, with all beyond the capacity empty.
+pub fn is_layout<K: Key, V: Value>(cells: &[Option<Record<K::Row, V>>], shape: Shape) -> bool
+    ensures { Decides result (IsTable (kinds_of K.Key.kind V.Value.kind) shape.seed shape.count shape.capacity cells.now) }
 {
     if cells.len() != 1024 {
         return false;
     }
-    if count > MOST_RECORDS {
+    if shape.count > MOST_RECORDS {
         return false;
     }
-    if capacity != capacity_of(count) {
+    if shape.capacity != capacity_of(shape.count) {
         return false;
     }
-    holds_layout::<K, V>(cells, seed, count, capacity)
+    holds_layout::<K, V>(cells, shape.seed, shape.count, shape.capacity)
 }

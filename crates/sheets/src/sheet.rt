@@ -6,6 +6,7 @@ ghost use Rattle.table.specs.Runs.{Stores};
 ghost use Rattle.sheets.specs.Sheets.{fault_number, fault_place, all_rows_keyed, well_lent, Judged, RunsAll, SheetRun};
 
 use crate::check::is_layout;
+use cells::shape::Shape;
 use kinds::key::Key;
 use kinds::record::Record;
 use kinds::value::Value;
@@ -19,7 +20,7 @@ pub enum SheetFault {
     Kind,
     // A lent thing has a wrong length.
     Lent,
-    // The cells are not a layout of that count, capacity and seed.
+    // The cells are not a layout of that shape.
     Cells,
 }
 
@@ -71,11 +72,9 @@ fn refusal<K: Key, V: Value>(
     spare: usize,
     sheet: &[Command<K::Row, V>],
     room: usize,
-    seed: u32,
-    count: usize,
-    capacity: usize,
+    shape: Shape,
 ) -> Option<SheetFault>
-    ensures { Judged (all_rows_keyed (kinds_of K.Key.kind V.Value.kind) sheet.now) (well_lent (length cells.now) spare (length sheet.now) room) (IsTable (kinds_of K.Key.kind V.Value.kind) seed count capacity cells.now) result }
+    ensures { Judged (all_rows_keyed (kinds_of K.Key.kind V.Value.kind) sheet.now) (well_lent (length cells.now) spare (length sheet.now) room) (IsTable (kinds_of K.Key.kind V.Value.kind) shape.seed shape.count shape.capacity cells.now) result }
 {
     if !all_rows_keyed::<K, V>(sheet) {
         return Some(SheetFault::Kind);
@@ -83,7 +82,7 @@ fn refusal<K: Key, V: Value>(
     if !is_well_lent(cells.len(), spare, sheet.len(), room) {
         return Some(SheetFault::Lent);
     }
-    if !is_layout::<K, V>(cells, seed, count, capacity) {
+    if !is_layout::<K, V>(cells, shape) {
         return Some(SheetFault::Cells);
     }
     None
@@ -135,26 +134,16 @@ pub fn run_sheet<K: Key, V: Value>(
     scratch: &mut [Option<Record<K::Row, V>>],
     sheet: &[Command<K::Row, V>],
     answers: &mut [Answer<V>],
-    seed: u32,
-    count: usize,
-    capacity: usize,
+    shape: Shape,
 ) -> Result<usize, SheetFault>
-    ensures { SheetRun (kinds_of K.Key.kind V.Value.kind) seed count capacity sheet.now (record { cells = cells.old; scratch = scratch.old; answers = answers.old }) (record { cells = cells.new; scratch = scratch.new; answers = answers.new }) result }
+    ensures { SheetRun (kinds_of K.Key.kind V.Value.kind) shape.seed shape.count shape.capacity sheet.now (record { cells = cells.old; scratch = scratch.old; answers = answers.old }) (record { cells = cells.new; scratch = scratch.new; answers = answers.new }) result }
 {
-    let fault = refusal::<K, V>(
-        cells,
-        scratch.len(),
-        sheet,
-        answers.len(),
-        seed,
-        count,
-        capacity,
-    );
+    let fault = refusal::<K, V>(cells, scratch.len(), sheet, answers.len(), shape);
     match fault {
         Some(why) => Err(why),
         None => {
             clear(scratch);
-            Ok(run_all::<K, V>(cells, scratch, sheet, answers, seed, count))
+            Ok(run_all::<K, V>(cells, scratch, sheet, answers, shape.seed, shape.count))
         }
     }
 }

@@ -2,7 +2,8 @@
 ghost use Rattle.std.specs.Prelude.{◌≡◌, ◌<◌, ◌≤◌, ◌++◌, length, take, drop, replicate, Some, None};
 ghost use Rattle.layout.specs.Cells.{at as in_cell, filled, layout, records_of};
 ghost use Rattle.maps.specs.Maps.{kinds_of};
-ghost use Rattle.table.specs.Rows.{Cells, Finds, held_by, row_key, row_order, row_rule, cells_with, cells_without};
+ghost use Rattle.cells.specs.Rows.{Cells, row_key, row_order, row_rule};
+ghost use Rattle.table.specs.Rows.{Finds, held_by, cells_with, cells_without};
 
 use crate::walks::{gather, insert, lookup, remove};
 use kinds::key::Key;

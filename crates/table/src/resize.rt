@@ -2,7 +2,7 @@
 ghost use Rattle.std.specs.Prelude.{◌≡◌, ◌-◌, ◌<◌, ◌≤◌, ◌++◌, length, take, replicate, None};
 ghost use Rattle.layout.specs.Cells.{filled, layout, records_of};
 ghost use Rattle.maps.specs.Maps.{kinds_of};
-ghost use Rattle.table.specs.Rows.{Cells, row_order, row_rule};
+ghost use Rattle.cells.specs.Rows.{Cells, row_order, row_rule};
 
 use crate::fronts::gather_front;
 use kinds::key::Key;

@@ -2,10 +2,11 @@
 ghost use Rattle.std.specs.Prelude.{◌≡◌, ◌<◌, ◌≤◌, length, replicate, Some, None};
 ghost use Rattle.layout.specs.Cells.{at as in_cell, filled, layout, records_of};
 ghost use Rattle.maps.specs.Maps.{kinds_of};
-ghost use Rattle.table.specs.Rows.{Cells, Finds, held_by, row_key, row_order, row_rule, cells_with, cells_without};
+ghost use Rattle.cells.specs.Rows.{Cells, row_key, row_order, row_rule};
+ghost use Rattle.table.specs.Rows.{Finds, held_by, cells_with, cells_without};
 
-use crate::ring::{distance, step};
-use crate::rows::{home, is_before};
+use cells::ring::{distance, step};
+use cells::rows::{home, is_before};
 use kinds::key::Key;
 use kinds::record::Record;
 use kinds::value::Value;

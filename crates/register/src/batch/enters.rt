@@ -10,6 +10,8 @@ ghost use Rattle.register.specs.Worlds.{setup, meaning, batch_in, open_world};
 use super::Open;
 use crate::fault::RegisterFault;
 use crate::listing::copy_filled;
+use cells::ring::capacity_of;
+use cells::shape::Shape;
 use kinds::key::Key;
 use kinds::record::Record;
 use kinds::value::Value;
@@ -18,7 +20,6 @@ use sheets::check::is_layout;
 use sheets::sheet::run_sheet;
 use store::fault::BlockFault;
 use store::store::Store;
-use table::ring::capacity_of;
 
 // Whether the batch was opened under other kinds.
 pub(crate) fn other_kinds<S, K: Key, V: Value>(batch: &Open<S>) -> bool
@@ -45,9 +46,11 @@ pub fn enter<S: Store, K: Key, V: Value>(
         scratch,
         sheet,
         answers,
-        batch.seed,
-        batch.count,
-        batch.capacity,
+        Shape {
+            seed: batch.seed,
+            count: batch.count,
+            capacity: batch.capacity,
+        },
     )?;
     batch.count = count;
     batch.capacity = capacity_of(count);
@@ -84,7 +87,14 @@ pub fn list<S: Store, K: Key, V: Value>(
     if let Some(fault) = list_refusal(other, cells.len(), batch.count, output.len()) {
         return Err(fault);
     }
-    if !is_layout::<K, V>(cells, batch.seed, batch.count, batch.capacity) {
+    if !is_layout::<K, V>(
+        cells,
+        Shape {
+            seed: batch.seed,
+            count: batch.count,
+            capacity: batch.capacity,
+        },
+    ) {
         return Err(RegisterFault::Cells);
     }
     copy_filled(cells, output);

@@ -10,6 +10,7 @@ ghost use Rattle.register.specs.Worlds.{setup, meaning, closed_world, opening_ev
 
 use super::{Closed, Open, Opening, Token};
 use crate::fault::RegisterFault;
+use cells::ring::capacity_of;
 use image::cell::clear;
 use image_store::load::read_store;
 use kinds::key::Key;
@@ -17,7 +18,6 @@ use kinds::record::Record;
 use kinds::value::Value;
 use store::fault::BlockFault;
 use store::store::Store;
-use table::ring::capacity_of;
 
 // Why start is refused, if it is.
 fn start_refusal<F: BlockFault>(blocks: usize, room: usize) -> Option<RegisterFault<F>>

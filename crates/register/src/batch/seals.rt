@@ -13,6 +13,7 @@ use super::enters::other_kinds;
 use super::{Closed, Open, Sealing, Token};
 use crate::blocks::write_all;
 use crate::fault::RegisterFault;
+use cells::shape::Shape;
 use image::cell::clear;
 use image_store::wipe::Wipe;
 use image_writer::writer::{image_len, write_image};
@@ -127,7 +128,14 @@ fn seal_batch<S: Store, K: Key, V: Value>(
     if let Some(fault) = seal_refusal(other, cells.len(), blocks, work.len()) {
         return Sealing::Refused(batch, token, fault);
     }
-    if !is_layout::<K, V>(cells, batch.seed, batch.count, batch.capacity) {
+    if !is_layout::<K, V>(
+        cells,
+        Shape {
+            seed: batch.seed,
+            count: batch.count,
+            capacity: batch.capacity,
+        },
+    ) {
         return Sealing::Refused(batch, token, RegisterFault::Cells);
     }
     let long = image_len::<K, V>(cells, batch.count);

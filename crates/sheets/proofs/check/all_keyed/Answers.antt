@@ -5,9 +5,9 @@ use Rattle.layout.proofs.Tests.{some_none}
 use Rattle.maps.specs.Maps.{kinds_of}
 use Rattle.kinds.specs.declared.record.Record.{Record}
 use Rattle.layout.specs.Cells.{at}
-use Rattle.table.specs.Rows.{row_key}
+use Rattle.cells.specs.Rows.{row_key}
 use Rattle.sheets.proofs.Checking.{no, keyed_here}
-use Rattle.table.proofs.Rules.{read_at}
+use Rattle.cells.proofs.Rules.{read_at}
 use Rattle.sheets.proofs.check.all_keyed.Goals.{in-None, in-Some+else-is_none}
 use Rattle.sheets.proofs.check.all_keyed.Goals as goal
 

@@ -2,7 +2,7 @@ use Rattle.std.proofs.Common.{◌≡◌, ℕ, ◌<◌, true, is_some, Some}
 use Rattle.layout.specs.Cells.{at}
 use Rattle.maps.specs.Maps.{kinds_of}
 use Rattle.kinds.specs.declared.record.Record.{Record}
-use Rattle.table.specs.Rows.{row_key}
+use Rattle.cells.specs.Rows.{row_key}
 use Rattle.sheets.proofs.check.all_keyed.Given as goal
 
 abbrev pub invariant-loop-i : goal.invariant-loop-i

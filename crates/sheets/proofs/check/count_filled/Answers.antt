@@ -3,7 +3,7 @@ use Rattle.std.proofs.lemmas.List.{take_all}
 use Rattle.layout.specs.Cells.{filled}
 use Rattle.layout.proofs.Gathers.{filled_more}
 use Rattle.sheets.proofs.Checking.{one_more}
-use Rattle.table.proofs.Rules.{read_at}
+use Rattle.cells.proofs.Rules.{read_at}
 use Rattle.sheets.proofs.check.count_filled.Goals.{in-None, in-Some}
 use Rattle.sheets.proofs.check.count_filled.Goals as goal
 

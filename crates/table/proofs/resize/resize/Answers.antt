@@ -1,7 +1,7 @@
 use Rattle.std.proofs.Common.{ℕ, ◌++◌, length, take, replicate, None, sym, ap, ◌∙◌}
 use Rattle.layout.specs.Cells.{layout, records_of}
 use Rattle.maps.specs.Maps.{kinds_of}
-use Rattle.table.specs.Rows.{row_order, row_rule}
+use Rattle.cells.specs.Rows.{row_order, row_rule}
 use Rattle.table.proofs.Moves.{empty_rest}
 use Rattle.table.proofs.resize.resize.Goals as goal
 

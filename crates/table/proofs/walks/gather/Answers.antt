@@ -5,8 +5,9 @@ use Rattle.layout.specs.Places.{Sound}
 use Rattle.layout.proofs.Gathers.{gather_start, gather_sound, gather_absent, gather_skip, gather_add, gather_end}
 use Rattle.layout.proofs.Layouts.{sound_distinct}
 use Rattle.maps.specs.Maps.{kinds_of}
-use Rattle.table.specs.Rows.{row_order, row_rule, row_merged}
-use Rattle.table.proofs.Rules.{read_at, lawful, lawful_at}
+use Rattle.cells.specs.Rows.{row_order, row_rule}
+use Rattle.table.specs.Rows.{row_merged}
+use Rattle.cells.proofs.Rules.{read_at, lawful, lawful_at}
 use Rattle.table.proofs.walks.gather.Goals.{in-None, in-Some}
 use Rattle.table.proofs.walks.gather.Goals as goal
 

@@ -1,7 +1,7 @@
 use Rattle.std.proofs.Common.{length}
 use Rattle.layout.specs.Walks.{Gathered}
 use Rattle.maps.specs.Maps.{kinds_of}
-use Rattle.table.specs.Rows.{row_rule}
+use Rattle.cells.specs.Rows.{row_rule}
 use Rattle.table.proofs.walks.gather.Given as goal
 
 abbrev pub invariant-loop-i : goal.invariant-loop-i

@@ -1,5 +1,5 @@
 -- the rule of rows is lawful, since the kind of the keys is
-use Rattle.std.proofs.Common.{◌≡◌, ℕ, ◌<◌, true, false, List, length, get_or, None, Option, Ordering, Less, Equal, Greater, sym, refl, ap, ◌∙◌, subst, arith}
+use Rattle.std.proofs.Common.{◌≡◌, ℕ, ◌<◌, true, false, List, length, get_or, Some, None, Option, Ordering, Less, Equal, Greater, sym, refl, ap, ◌∙◌, subst, arith}
 use Rattle.std.specs.Ordering.{is_lt, ordering_reverse}
 use Rattle.std.proofs.lemmas.List.{get_or_read}
 use Rattle.std.proofs.lemmas.Bool.{both_ways}
@@ -12,11 +12,16 @@ use Rattle.layout.specs.Orders.{Ordered}
 use Rattle.layout.proofs.Capacities.{hashed_lawful}
 use Rattle.layout.proofs.Views.{partly_ordered, hash_some_small}
 use Rattle.maps.specs.Maps.{Kinds, record_order}
-use Rattle.table.specs.Rows.{Cells, row_key, row_order, row_rule}
+use Rattle.cells.specs.Rows.{Cells, row_key, row_order, row_rule}
 
 -- what a read of cell i gave
 pub read_at : {R : Type 0} (c : List (Option R)) (i : ℕ) (o p : Option R) → i < length c → o ≡ get_or c i o → o ≡ p → at c i ≡ p
 read_at c i o p l e q = sym (get_or_read c i o l e None) ∙ q
+
+-- what is nothing but some is none
+pub none_of : {R : Type 0} (o : Option R) → ((r : R) → o ≡ Some r → ⊥) → o ≡ None
+none_of None w = refl
+none_of (Some r) w = absurd (w r refl)
 
 -- a test of a, which is b
 pub told : {A B : Type 0} (f : A → B) (a b : A) (v : B) → v ≡ f a → a ≡ b → f b ≡ v

@@ -11,12 +11,10 @@ use kinds::key::Key;
 pub fn is_before<K: Key>(a: Option<K>, b: Option<K>) -> bool
     ensures { result ≡ before_some (λ j k. is_lt (K.Key.kind.order j k)) a b }
 {
-    match a {
-        None => b.is_some(),
-        Some(j) => match b {
-            None => false,
-            Some(k) => j.compare(&k).is_lt(),
-        },
+    match (a, b) {
+        (None, b) => b.is_some(),
+        (Some(_), None) => false,
+        (Some(j), Some(k)) => j.compare(&k).is_lt(),
     }
 }
 
@@ -25,8 +23,5 @@ pub fn home<K: Key>(cells: usize, seed: u32, key: Option<K>) -> usize
     requires { cells ≤ 1024 }
     ensures { result ≡ home_at cells (hash_some (K.Key.kind.hash seed) key) }
 {
-    match key {
-        None => home_of(cells, 0),
-        Some(k) => home_of(cells, k.hash(seed)),
-    }
+    home_of(cells, key.map_or(0, |k| k.hash(seed)))
 }
