@@ -6,14 +6,17 @@ use Rattle.std.proofs.lemmas.Bool.{and_parts, leb-true}
 use Rattle.kinds.specs.declared.record.Record.{Record as Rec}
 use Rattle.layout.specs.Capacity.{capacity}
 use Rattle.layout.specs.Cells.{records_of}
+use Rattle.layout.specs.Places.{first_out}
 use Rattle.layout.specs.Views.{seen}
+use Rattle.cells.specs.Rows.{row_rule}
+use Rattle.cells.proofs.Lent.{first_out_lent}
 use Rattle.layout.proofs.Capacities.{power_law}
 use Rattle.layout.proofs.Tests.{lowest_all}
-use Rattle.maps.specs.Maps.{Kinds, KindsLaws, Contents, contents, record_order, lent, cells_of}
+use Rattle.maps.specs.Maps.{Kinds, KindsLaws, Contents, contents, record_order, rule, lent, cells_of}
 use Rattle.image.specs.declared.fault.ImageFault.{ImageFault}
-use Rattle.image.specs.declared.fault.ImageFault.TheVariants.{Header, Bits}
+use Rattle.image.specs.declared.fault.ImageFault.TheVariants.{Header, Bits, Layout}
 use Rattle.image.specs.Image.{code_of}
-use Rattle.image.specs.Opened.{byte, count_of, seed_of, capacity_of, Cells, breaks, header_check, bits_check, front_of, cells_in, layout_check, tail_check, opened}
+use Rattle.image.specs.Opened.{byte, count_of, seed_of, capacity_of, Cells, unless, breaks, header_check, bits_check, front_of, cells_in, layout_check, tail_check, opened}
 use Rattle.image.specs.Rows.{keyed_cells}
 use Rattle.image.proofs.Bodies.{code_laws}
 use Rattle.image.proofs.Chains.{then_at, unless_ok, cond_ok}
@@ -84,17 +87,20 @@ module _ (F : Type 0) {K Row V : Type 0} (x : Kinds K Row V) (laws : KindsLaws x
             first_cells : part ≡ map (seen (lent x)) cs
             first_cells = subst (λ o. Filled x o part) (ap (cells_in x bs) (en ∙ ek) ∙ read.1) fl
 
-            taken : keyed_cells x part ≡ cs
-            taken = ap (keyed_cells x) first_cells ∙ keyed_back x laws cs
+            -- the places of the rows are those of their keys
+            placed : (s : ℕ) → unless {F = F} Layout (first_out (row_rule x s (length part)) part) ≡ layout_check x s cs
+            unfolding layout_check
+            placed s =
+                ap (unless Layout) (ap (λ c. first_out (row_rule x s (length c)) c) first_cells ∙ first_out_lent x laws.key s (length (map (seen (lent x)) cs)) cs ∙ ap (λ m. first_out (rule x s m) cs) (length-map cs (seen (lent x))))
 
             module _ (s : ℕ) (es : s ≡ seed_of bs) where
-              pub at_layout : (f : ImageFault F) → Err f ≡ layout_check x s (keyed_cells x part) → O ≡ Err f
+              pub at_layout : (f : ImageFault F) → Err f ≡ unless Layout (first_out (row_rule x s (length part)) part) → O ≡ Err f
               unfolding opened
-              at_layout f q = then_at _ _ _ (sym h) ∙ then_at _ _ _ b' ∙ then_at _ _ _ read.1 ∙ then_at _ _ _ (sym (q ∙ ap₂ (layout_check x) es taken))
+              at_layout f q = then_at _ _ _ (sym h) ∙ then_at _ _ _ b' ∙ then_at _ _ _ read.1 ∙ then_at _ _ _ (sym (q ∙ placed s ∙ ap (λ y. layout_check x y cs) es))
 
-              module _ (l : Unit {0}) (q : Ok l ≡ layout_check x {F = F} s (keyed_cells x part)) where
+              module _ (l : Unit {0}) (q : Ok l ≡ unless {F = F} Layout (first_out (row_rule x s (length part)) part)) where
                 q' : layout_check x {F = F} (seed_of bs) cs ≡ Ok l
-                q' = sym (q ∙ ap₂ (layout_check x) es taken)
+                q' = sym (q ∙ placed s ∙ ap (λ y. layout_check x y cs) es)
 
                 pub at_tail : (f : ImageFault F) → Err f ≡ tail_check bs e → O ≡ Err f
                 unfolding opened

@@ -1,5 +1,4 @@
 pub mod Rules
-pub mod Placing
 pub mod Turns
 pub mod Chain
 pub mod Ends

@@ -3,7 +3,7 @@ ghost use Rattle.image.specs.Opened.{byte, count_of, seed_of, wrong_count, break
 ghost use Rattle.maps.specs.Maps.{kinds_of};
 ghost use Rattle.std.specs.Prelude.{◌≡◌};
 
-use image::capacity::power_of;
+use cells::ring::power_of;
 use image::fault::ImageFault;
 use kinds::key::Key;
 use kinds::value::Value;

@@ -8,7 +8,7 @@ ghost use Rattle.maps.specs.Maps.{kinds_of};
 
 use crate::bits::put_bits;
 use crate::codes::{codes_len, put_codes};
-use image::capacity::{capacity_of, power_of};
+use cells::ring::{capacity_of, power_of};
 use kinds::key::Key;
 use kinds::record::Record;
 use kinds::value::Value;
