@@ -1,11 +1,11 @@
 ghost use Rattle.std.specs.Prelude.{◌≡◌, ◌*◌, ◌<◌, ◌++◌, length, drop, Some, None, slice_index_or, slice_set};
-ghost use Rattle.store.specs.Answers.{told, write_answer, shown_after, after_write};
-ghost use Rattle.store.specs.Faults.{fault_number, fault_block};
+ghost use Rattle.store.specs.Answers.{write_answer, shown_after, after_write};
 ghost use Rattle.store.specs.Lent.{overwritten};
+ghost use Rattle.store.specs.Told.{tells};
 ghost use Rattle.store.specs.Sums.{sums, sums_more, checked_place, checked_count, checked_places, checked_lengths};
 
-use crate::bytes::{load, same, save};
-use crate::fault::{StoreFault, writable};
+use crate::bytes::{block_at, overwrite};
+use crate::fault::{BlockFault, StoreFault, readable, writable};
 use crate::store::{Block, Store};
 
 // Blocks in lent bytes, each with its two Fletcher sums behind it. What it shows it keeps at once.
@@ -42,12 +42,9 @@ fn with_byte(s1: u16, s2: u16, x: u8) -> (u16, u16)
 pub fn fletcher(bytes: &[u8]) -> [u8; 2]
     ensures { result ≡ sums bytes.now }
 {
-    let mut s1 = 0;
-    let mut s2 = 0;
+    let (mut s1, mut s2) = (0, 0);
     for x in bytes {
-        let (t1, t2) = with_byte(s1, s2, *x);
-        s1 = t1;
-        s2 = t2;
+        (s1, s2) = with_byte(s1, s2, *x);
     }
     [s1 as u8, s2 as u8]
 }
@@ -57,9 +54,9 @@ fn right_block(part: &[u8]) -> Option<Block>
     requires { length part.now ≡ 34 }
     ensures { result ≡ checked_place part.now }
 {
-    let block = load(part, 0);
+    let block = block_at(part, 0);
     let sums = fletcher(&block);
-    if same(&part[32..34], &sums) {
+    if part[32..34] == sums[..] {
         Some(block)
     } else {
         None
@@ -80,9 +77,9 @@ fn with_sums(block: &Block) -> [u8; 34]
     ensures { result ≡ block.now ++ sums block.now }
 {
     let mut part = [0; 34];
-    save(&mut part, 0, block);
+    overwrite(&mut part, 0, block);
     let sums = fletcher(block);
-    save(&mut part, 32, &sums);
+    overwrite(&mut part, 32, &sums);
     part
 }
 
@@ -94,7 +91,7 @@ fn put_block(bytes: &mut [u8], i: usize, block: &Block)
     ensures tail { drop (checked_count bytes.old * 34) bytes.new ≡ drop (checked_count bytes.old * 34) bytes.old }
 {
     let part = with_sums(block);
-    save(bytes, i * 34, &part);
+    overwrite(bytes, i * 34, &part);
 }
 
 impl Store for CheckedStore<'_> {
@@ -119,19 +116,14 @@ impl Store for CheckedStore<'_> {
     }
 
     fn read(&self, i: usize) -> Result<Block, StoreFault> {
-        if i >= self.count() {
-            return Err(StoreFault::Range(i));
-        }
-        match block_of(self.bytes, i) {
-            Some(block) => Ok(block),
-            None => Err(StoreFault::Unreadable(i)),
-        }
+        readable(i, self.count())?;
+        block_of(self.bytes, i).ok_or(StoreFault::Unreadable(i))
     }
 
     // What the trait asks, then which of the lent bytes change: those of the block and its sums alone, and none past
     // the last whole 34 bytes.
     fn write(&mut self, i: usize, block: &Block) -> Result<(), StoreFault>
-        ensures answer { told fault_number fault_block result ≡ write_answer (checked_count self.old.bytes.now) self.old.locked i }
+        ensures answer { tells ⟦<StoreFault as BlockFault>⟧ result ≡ write_answer (checked_count self.old.bytes.now) self.old.locked i }
         ensures count { checked_count self.new.bytes.now ≡ checked_count self.old.bytes.now }
         ensures protect { self.new.locked ≡ self.old.locked }
         ensures shows { checked_places self.new.bytes.now ≡ shown_after (checked_count self.old.bytes.now) self.old.locked (checked_places self.old.bytes.now) i block.now }

@@ -1,7 +1,8 @@
 // Stores of blocks: what a store is, and two base stores over lent bytes.
 #![tactic(auto)]
 
-mod bytes;
+mod asked;
+pub mod bytes;
 pub mod checked;
 pub mod fault;
 pub mod laws;

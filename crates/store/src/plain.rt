@@ -1,10 +1,10 @@
 ghost use Rattle.std.specs.Prelude.{◌≡◌, ◌*◌, ◌<◌, drop, Some, None, slice_index_or, slice_set};
-ghost use Rattle.store.specs.Answers.{told, write_answer, shown_after, after_write};
-ghost use Rattle.store.specs.Faults.{fault_number, fault_block};
+ghost use Rattle.store.specs.Answers.{write_answer, shown_after, after_write};
 ghost use Rattle.store.specs.Lent.{overwritten, plain_count, plain_places, plain_lengths};
+ghost use Rattle.store.specs.Told.{tells};
 
-use crate::bytes::{load, save};
-use crate::fault::{StoreFault, writable};
+use crate::bytes::{block_at, overwrite};
+use crate::fault::{BlockFault, StoreFault, readable, writable};
 use crate::store::{Block, Store};
 
 // Blocks that lie one behind the other in lent bytes. What it shows it keeps at once.
@@ -32,7 +32,7 @@ fn block_of(bytes: &[u8], i: usize) -> Block
     requires { i < plain_count bytes.now }
     ensures { Some result ≡ slice_index_or (plain_places bytes.now) i None }
 {
-    load(bytes, i * 32)
+    block_at(bytes, i * 32)
 }
 
 // Writes block `i` of the bytes.
@@ -42,7 +42,7 @@ fn put_block(bytes: &mut [u8], i: usize, block: &Block)
     ensures bytes { bytes.new ≡ overwritten bytes.old (i * 32) block.now }
     ensures tail { drop (plain_count bytes.old * 32) bytes.new ≡ drop (plain_count bytes.old * 32) bytes.old }
 {
-    save(bytes, i * 32, block);
+    overwrite(bytes, i * 32, block);
 }
 
 impl Store for PlainStore<'_> {
@@ -67,15 +67,13 @@ impl Store for PlainStore<'_> {
     }
 
     fn read(&self, i: usize) -> Result<Block, StoreFault> {
-        if i >= self.count() {
-            return Err(StoreFault::Range(i));
-        }
+        readable(i, self.count())?;
         Ok(block_of(self.bytes, i))
     }
 
     // What the trait asks, then which of the lent bytes change: those of the block alone, and none past the last whole block.
     fn write(&mut self, i: usize, block: &Block) -> Result<(), StoreFault>
-        ensures answer { told fault_number fault_block result ≡ write_answer (plain_count self.old.bytes.now) self.old.locked i }
+        ensures answer { tells ⟦<StoreFault as BlockFault>⟧ result ≡ write_answer (plain_count self.old.bytes.now) self.old.locked i }
         ensures count { plain_count self.new.bytes.now ≡ plain_count self.old.bytes.now }
         ensures protect { self.new.locked ≡ self.old.locked }
         ensures shows { plain_places self.new.bytes.now ≡ shown_after (plain_count self.old.bytes.now) self.old.locked (plain_places self.old.bytes.now) i block.now }
