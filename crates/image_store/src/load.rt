@@ -1,8 +1,7 @@
 ghost use Rattle.std.specs.Prelude.{◌≡◌, ◌+◌, ◌*◌, ◌≤◌, length, replicate};
-ghost use Rattle.image.specs.Faults.{fault_number, fault_place};
-ghost use Rattle.image_store.specs.Loads.{load_answer, Loaded, store_opened, seed_and_count_told, cells_left, ReadsStore};
+ghost use Rattle.image.specs.Told.{tells};
+ghost use Rattle.image_store.specs.Loads.{load_answer, Loaded, opened_by, seed_and_count_told, cells_left, ReadsStore};
 ghost use Rattle.maps.specs.Maps.{kinds_of};
-ghost use Rattle.store.specs.Answers.{told};
 
 use crate::wipe::Wipe;
 use image::fault::ImageFault;
@@ -16,7 +15,7 @@ use store::store::Store;
 // Copies every block into the work bytes, up to the first that is unreadable.
 fn load<S: Store>(store: &S, work: &mut [u8]) -> Result<(), ImageFault<S::Fault>>
     requires { 32 * S.Store.count store.now ≤ length work.old }
-    ensures answer { told (fault_number S.Fault.BlockFault.number) (fault_place S.Fault.BlockFault.block) result ≡ load_answer (S.Store.shown store.now) }
+    ensures answer { tells S.Fault.BlockFault result ≡ load_answer (S.Store.shown store.now) }
     ensures bytes { Loaded (S.Store.shown store.now) (S.Store.count store.now) work.new result }
 {
     for i in 0..store.count() {
@@ -34,8 +33,8 @@ pub fn read_store<S: Store, K: Key, V: Value>(
 ) -> Result<(u32, usize), ImageFault<S::Fault>>
     requires room { 32 * S.Store.count store.now ≤ length work.old }
     requires lent { length cells.old ≡ 1024 }
-    ensures answer { told (fault_number S.Fault.BlockFault.number) (fault_place S.Fault.BlockFault.block) result ≡ seed_and_count_told (kinds_of K.Key.kind V.Value.kind) (store_opened (kinds_of K.Key.kind V.Value.kind) S.Fault.BlockFault.number S.Fault.BlockFault.block (S.Store.shown store.now)) }
-    ensures cells { cells.new ≡ cells_left (kinds_of K.Key.kind V.Value.kind) (length cells.old) (store_opened (kinds_of K.Key.kind V.Value.kind) S.Fault.BlockFault.number S.Fault.BlockFault.block (S.Store.shown store.now)) }
+    ensures answer { tells S.Fault.BlockFault result ≡ seed_and_count_told (kinds_of K.Key.kind V.Value.kind) (opened_by (kinds_of K.Key.kind V.Value.kind) S.Fault.BlockFault (S.Store.shown store.now)) }
+    ensures cells { cells.new ≡ cells_left (kinds_of K.Key.kind V.Value.kind) (length cells.old) (opened_by (kinds_of K.Key.kind V.Value.kind) S.Fault.BlockFault (S.Store.shown store.now)) }
     ensures work { work.new ≡ replicate (length work.old) 0 }
     ensures exact { ReadsStore (kinds_of K.Key.kind V.Value.kind) (S.Store.shown store.now) result cells.new }
 {
