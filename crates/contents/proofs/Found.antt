@@ -17,7 +17,7 @@ use Rattle.model.specs.Worlds.{Store}
 use Rattle.model.proofs.Refusals.{not_refused}
 use Rattle.store.specs.Answers.{Answer, told}
 use Rattle.store.specs.Places.{Place}
-use Rattle.contents.specs.Faults.{told as told_by, told_if}
+use Rattle.contents.specs.Faults.{told as told_by}
 use Rattle.contents.specs.Finds.{Finds, reading}
 use Rattle.contents.specs.Readings.{FoundIn}
 use Rattle.contents.specs.Setups.{image_bytes, setup}
@@ -149,6 +149,7 @@ module _ {F K Row V : Type 0} (k : KeyKind K Row) (v : ValueKind V) (number bloc
         λ i. record { answer = Err (told_by number block f); cells = empty i; work = cleared i },
       ))
 
--- a refusal that was looked for and not found
-pub none_told : {F : Type 0} (number block : F → ℕ) (r : Option (RegisterFault F)) (q : Option Fault) → r ≡ None → told_if number block r ≡ q → None ≡ q
-none_told number block r q e h = sym (ap (told_if number block) e) ∙ h
+-- what is cloned from an empty cell is one
+pub none_cloned : {A : Type 0} (P : Option A → Type 0) → ((a : A) → P (Some a) → ⊥) → (cell : Option A) → P cell → cell ≡ None
+none_cloned P never None p = refl
+none_cloned P never (Some a) p = absurd (never a p)
