@@ -12,9 +12,10 @@ use Rattle.model.proofs.Pieces.{listed_front}
 use Rattle.model.proofs.Refusals.{not_refused, list_taken}
 use Rattle.sheets.specs.Checks.{IsTable}
 use Rattle.register.specs.Sheets.{list_event}
-use Rattle.register.specs.Worlds.{setup, batch_in, open_world}
+use Rattle.contents.specs.Setups.{setup}
+use Rattle.register.specs.Worlds.{batch_in, open_world}
 use Rattle.register.specs.declared.batch.Open.{Open}
-use Rattle.register.specs.declared.fault.RegisterFault.TheVariants.{Cells}
+use Rattle.contents.specs.declared.fault.RegisterFault.TheVariants.{Cells}
 
 module _ {S F K Row V : Type 0} (k : KeyKind K Row) (v : ValueKind V) (number block : F → ℕ) (d : S → Store) (o : Open S) (cells : List (Option (Record Row V))) where
   -- what the check of the cells tells, as the steps have it

@@ -5,8 +5,8 @@ use Rattle.maps.specs.declared.Answer.{Answer}
 use Rattle.maps.specs.declared.Command.{Command}
 use Rattle.model.specs.Steps.{in_cells}
 use Rattle.model.specs.Worlds.{World, Call, Outcome, Event, sheet_pieces, output_piece}
-use Rattle.register.specs.Faults.{told}
-use Rattle.register.specs.declared.fault.RegisterFault.{RegisterFault}
+use Rattle.contents.specs.Faults.{told}
+use Rattle.contents.specs.declared.fault.RegisterFault.{RegisterFault}
 
 -- the answers stand at the first places
 abbrev pub enter_outcome : {F Row V : Type 0} → (F → ℕ) → (F → ℕ) → Result Unit (RegisterFault F) → List (Answer V) → Outcome Row V
