@@ -16,7 +16,7 @@ pub(crate) fn examine<S: Store, K: Key, V: Value>(
     cells: &mut [Option<Record<K::Row, V>>],
     work: &mut [u8],
 ) -> Result<(usize, u32), RegisterFault<S::Fault>>
-    ensures { Examines (setup K.Key.kind V.Value.kind) (meaning S.Store.count S.Store.protected S.Store.shown S.Store.kept store.now) cells.old work.old (reading S.Fault.BlockFault.number S.Fault.BlockFault.block result cells.new work.new) }
+    ensures { Examines (setup K.Key.kind V.Value.kind) (meaning S.Store store.now) cells.old work.old (reading S.Fault.BlockFault result cells.new work.new) }
 {
     let (seed, count) = find_contents::<S, K, V>(store, cells, work)?;
     // a rule of the project: an audit answers the count first
@@ -30,7 +30,7 @@ pub fn audit<S: Store, K: Key, V: Value>(
     cells: &mut [Option<Record<K::Row, V>>],
     work: &mut [u8],
 ) -> Result<(usize, u32), RegisterFault<S::Fault>>
-    ensures { Audits (setup K.Key.kind V.Value.kind) (meaning S.Store.count S.Store.protected S.Store.shown S.Store.kept store.now) cells.old work.old (reading S.Fault.BlockFault.number S.Fault.BlockFault.block result cells.new work.new) }
+    ensures { Audits (setup K.Key.kind V.Value.kind) (meaning S.Store store.now) cells.old work.old (reading S.Fault.BlockFault result cells.new work.new) }
 {
     let found = examine::<S, K, V>(store, cells, work)?;
     cells.fill(None);

@@ -19,9 +19,9 @@ pub fn audit_two<S: Store, T: Store, K: Key, V: Value>(
     second_cells: &mut [Option<Record<K::Row, V>>],
     work: &mut [u8],
 ) -> Result<bool, AuditFault<S::Fault, T::Fault>>
-    ensures audits { AuditsTwo (setup K.Key.kind V.Value.kind) (meaning S.Store.count S.Store.protected S.Store.shown S.Store.kept first.now) (meaning T.Store.count T.Store.protected T.Store.shown T.Store.kept second.now) first_cells.old second_cells.old work.old (comparison S.Fault.BlockFault.number S.Fault.BlockFault.block T.Fault.BlockFault.number T.Fault.BlockFault.block result first_cells.new second_cells.new work.new) }
-    ensures yes { YesExactly (setup K.Key.kind V.Value.kind) (meaning S.Store.count S.Store.protected S.Store.shown S.Store.kept first.now) (meaning T.Store.count T.Store.protected T.Store.shown T.Store.kept second.now) first_cells.old second_cells.old work.old (answered_two S.Fault.BlockFault.number S.Fault.BlockFault.block T.Fault.BlockFault.number T.Fault.BlockFault.block result) }
-    ensures equal { EqualImages (setup K.Key.kind V.Value.kind) (meaning S.Store.count S.Store.protected S.Store.shown S.Store.kept first.now) (meaning T.Store.count T.Store.protected T.Store.shown T.Store.kept second.now) first_cells.old second_cells.old work.old (answered_two S.Fault.BlockFault.number S.Fault.BlockFault.block T.Fault.BlockFault.number T.Fault.BlockFault.block result) }
+    ensures audits { AuditsTwo (setup K.Key.kind V.Value.kind) (meaning S.Store first.now) (meaning T.Store second.now) first_cells.old second_cells.old work.old (comparison S.Fault.BlockFault T.Fault.BlockFault result first_cells.new second_cells.new work.new) }
+    ensures yes { YesExactly (setup K.Key.kind V.Value.kind) (meaning S.Store first.now) (meaning T.Store second.now) first_cells.old second_cells.old work.old (answered_two S.Fault.BlockFault T.Fault.BlockFault result) }
+    ensures equal { EqualImages (setup K.Key.kind V.Value.kind) (meaning S.Store first.now) (meaning T.Store second.now) first_cells.old second_cells.old work.old (answered_two S.Fault.BlockFault T.Fault.BlockFault result) }
 {
     // a match, since the borrow checker takes no `map_err` to a type with a parameter more, as `First` makes it
     let (count, _) = match examine::<S, K, V>(first, first_cells, work) {

@@ -18,7 +18,7 @@ fn check_lengths<F: BlockFault>(
     room: usize,
     work: usize,
 ) -> Result<(), RegisterFault<F>>
-    ensures { told_if F.BlockFault.number F.BlockFault.block result ≡ begin_refusal blocks room work }
+    ensures { told_if F.BlockFault result ≡ begin_refusal blocks room work }
 {
     if blocks == 0 || blocks > 2048 {
         return Err(RegisterFault::Size);
@@ -35,7 +35,7 @@ pub fn find_contents<S: Store, K: Key, V: Value>(
     cells: &mut [Option<Record<K::Row, V>>],
     work: &mut [u8],
 ) -> Result<(u32, usize), RegisterFault<S::Fault>>
-    ensures { Finds (setup K.Key.kind V.Value.kind) (meaning S.Store.count S.Store.protected S.Store.shown S.Store.kept store.now) cells.old work.old (reading S.Fault.BlockFault.number S.Fault.BlockFault.block result cells.new work.new) }
+    ensures { Finds (setup K.Key.kind V.Value.kind) (meaning S.Store store.now) cells.old work.old (reading S.Fault.BlockFault result cells.new work.new) }
 {
     check_lengths(store.count(), cells.len(), work.len())?;
     let found = read_store::<S, K, V>(store, work, cells)?;

@@ -21,7 +21,9 @@ use Rattle.sheets.specs.declared.sheet.SheetFault.{SheetFault}
 use Rattle.sheets.specs.declared.sheet.SheetFault.TheVariants as Why
 use Rattle.contents.specs.Faults.{of_sheet}
 use Rattle.register.specs.Sheets.{enter_event}
-use Rattle.contents.specs.Setups.{setup}
+use Rattle.store.specs.declared.fault.BlockFault.{Ghosts as FaultWords}
+use Rattle.store.specs.declared.store.Store.{Ghosts as StoreWords}
+use Rattle.contents.specs.Setups.{setup, meaning}
 use Rattle.register.specs.Worlds.{batch_in, open_world}
 use Rattle.register.specs.declared.batch.Open.{Open}
 use Rattle.contents.specs.declared.fault.RegisterFault.{RegisterFault}
@@ -48,7 +50,7 @@ pub own : (other : Bool) (f : Fault) → None ≡ first ((other, f) ∷ []) → 
 own true f e = let z : ◌≡◌ {A = ℕ} 0 1 = cc in absurd (omega arith)
 own false f e = refl
 
-module _ {S F K Row V : Type 0} (k : KeyKind K Row) (v : ValueKind V) (number block : F → ℕ) (d : S → Store) (o : Open S)
+module _ {S F K Row V : Type 0} (k : KeyKind K Row) (v : ValueKind V) (w : FaultWords F) (d : StoreWords S F) (o : Open S)
     (cells : List (Option (Record Row V))) (scratch : List (Option (Record Row V))) (sheet : List (Command Row V)) (answers : List (Answer V))
     (same : other_kinds (kinds_of k v) (batch_in o) ≡ false) where
   abbrev before : Pieces Row V
@@ -56,14 +58,14 @@ module _ {S F K Row V : Type 0} (k : KeyKind K Row) (v : ValueKind V) (number bl
 
   -- refused, everything is as it was
   pub refused_step : (f : SheetFault) (after : Pieces Row V) (told : Result Unit (RegisterFault F)) → told ≡ Err (of_sheet f) → SheetRun (kinds_of k v) o.seed o.count o.capacity sheet before after (Err f)
-      → Step (setup k v) (open_world d o cells) (enter_event number block sheet scratch answers told (open_world d o after.cells) after.scratch after.answers)
+      → Step (setup k v) (open_world d o cells) (enter_event w sheet scratch answers told (open_world d o after.cells) after.scratch after.answers)
   refused_step f after told e r =
-      subst (λ (q : Result Unit (RegisterFault F)). Step (setup k v) (open_world d o cells) (enter_event number block sheet scratch answers q (open_world d o after.cells) after.scratch after.answers)) (sym e)
-      (subst (λ (p : Pieces Row V). Step (setup k v) (open_world d o cells) (enter_event number block sheet scratch answers (Err (of_sheet f)) (open_world d o p.cells) p.scratch p.answers))
+      subst (λ (q : Result Unit (RegisterFault F)). Step (setup k v) (open_world d o cells) (enter_event w sheet scratch answers q (open_world d o after.cells) after.scratch after.answers)) (sym e)
+      (subst (λ (p : Pieces Row V). Step (setup k v) (open_world d o cells) (enter_event w sheet scratch answers (Err (of_sheet f)) (open_world d o p.cells) p.scratch p.answers))
       (sym r.1) (by f r.0))
     where
       by : (f : SheetFault) → Refused (all_rows_keyed (kinds_of k v) sheet) (well_lent (length cells) (length scratch) (length sheet) (length answers)) (IsTable (kinds_of k v) o.seed o.count o.capacity cells) f
-          → Step (setup k v) (open_world d o cells) (enter_event number block sheet scratch answers (Err (of_sheet f)) (open_world d o cells) scratch answers)
+          → Step (setup k v) (open_world d o cells) (enter_event w sheet scratch answers (Err (of_sheet f)) (open_world d o cells) scratch answers)
       by Why.Kind h = record {
         does = refused_with _ _ (refusal_is (kinds_of k v) _ (length cells) sheet scratch answers false _ same h refl)
             (record { outcome = refl; phase = refl; count = refl; protected = refl; shown = refl; cells = refl; lent = refl });
@@ -82,7 +84,7 @@ module _ {S F K Row V : Type 0} (k : KeyKind K Row) (v : ValueKind V) (number bl
 
   pub entered_step : (left cap : ℕ) (after : Pieces Row V) → cap ≡ capacity left → length after.scratch ≡ length scratch → SheetRun (kinds_of k v) o.seed o.count o.capacity sheet before after (Ok left)
       → Step (setup k v) (open_world d o cells)
-      (enter_event {F = F} number block sheet scratch answers (Ok tt) (open_world d (record { store = o.store; key_kind = o.key_kind; value_kind = o.value_kind; seed = o.seed; count = left; capacity = cap }) after.cells) after.scratch after.answers)
+      (enter_event {F = F} w sheet scratch answers (Ok tt) (open_world d (record { store = o.store; key_kind = o.key_kind; value_kind = o.value_kind; seed = o.seed; count = left; capacity = cap }) after.cells) after.scratch after.answers)
   entered_step left cap after c l r =
       let x = kinds_of k v in
       let judged = r.0 in

@@ -13,7 +13,9 @@ use Rattle.model.specs.Steps.{Step}
 use Rattle.model.specs.Worlds.{Store}
 use Rattle.model.proofs.Refusals.{not_refused, seal_taken, write_taken}
 use Rattle.sheets.specs.Checks.{IsTable}
-use Rattle.contents.specs.Setups.{setup}
+use Rattle.store.specs.declared.fault.BlockFault.{Ghosts as FaultWords}
+use Rattle.store.specs.declared.store.Store.{Ghosts as StoreWords}
+use Rattle.contents.specs.Setups.{setup, meaning}
 use Rattle.register.specs.Seals.{MaySeal, seal_event}
 use Rattle.register.specs.Worlds.{batch_in, open_world}
 use Rattle.register.specs.declared.batch.Closed.{Closed}
@@ -56,28 +58,28 @@ module _ {S K Row V : Type 0} (x : Kinds K Row V) (s : Store) (o : Open S) (cell
         let w = write_taken (image_length x (contents o.seed m)) s.count s.protected (sym may.fits) in
         ((m, holds, w.0), w.1)
 
-module _ {S F K Row V : Type 0} (k : KeyKind K Row) (v : ValueKind V) (number block : F → ℕ) (d : S → Store) (o : Open S) (cells : List (Option (Record Row V))) (work : List ℕ)
-    (may : MaySeal (kinds_of k v) (d o.store) o cells work) where
-  pub sealed_step : (s : S) (c : Closed S) (cells' : List (Option (Record Row V))) (work' : List ℕ) → c.store ≡ s → (d s).count ≡ (d o.store).count → (d s).protected ≡ (d o.store).protected
-      → ShowsImage (kinds_of k v) o.seed o.count cells (d o.store).count (d s).shown → (d s).kept ≡ (d s).shown → cells' ≡ replicate (length cells) None → work' ≡ replicate (length work) 0
-      → Step (setup k v) (open_world d o cells) (seal_event {F = F} number block d work (Ok c) cells' work')
+module _ {S F K Row V : Type 0} (k : KeyKind K Row) (v : ValueKind V) (w : FaultWords F) (d : StoreWords S F) (o : Open S) (cells : List (Option (Record Row V))) (work : List ℕ)
+    (may : MaySeal (kinds_of k v) (meaning d o.store) o cells work) where
+  pub sealed_step : (s : S) (c : Closed S) (cells' : List (Option (Record Row V))) (work' : List ℕ) → c.store ≡ s → d.count s ≡ d.count o.store → d.protected s ≡ d.protected o.store
+      → ShowsImage (kinds_of k v) o.seed o.count cells (d.count o.store) (d.shown s) → d.kept s ≡ d.shown s → cells' ≡ replicate (length cells) None → work' ≡ replicate (length work) 0
+      → Step (setup k v) (open_world d o cells) (seal_event {F = F} w d work (Ok c) cells' work')
   sealed_step s c cells' work' store count protected shows keeps emptied zero =
       let t = may.table in
       record {
         does = not_refused _ _ may.free (inl (
           t.0.0,
-          laid_for k v number block d o cells t,
+          laid_for k v w d o cells t,
           not_refused _ _ may.fits (
             record {
               outcome = refl;
               phase = refl;
-              count = ap (λ s. (d s).count) store ∙ count;
-              protected = ap (λ s. (d s).protected) store ∙ protected;
-              shown = ap (λ s. (d s).shown) store ∙ shows t.0.0 (holds (kinds_of k v) (d o.store) o cells work may);
+              count = ap d.count store ∙ count;
+              protected = ap d.protected store ∙ protected;
+              shown = ap d.shown store ∙ shows t.0.0 (holds (kinds_of k v) (meaning d o.store) o cells work may);
               cells = emptied;
               lent = λ i. record { work = zero i; scratch = []; answers = []; output = [] };
             },
-            ap (λ s. (d s).kept) store ∙ keeps ∙ sym (ap (λ s. (d s).shown) store),
+            ap d.kept store ∙ keeps ∙ sym (ap d.shown store),
           ),
         ));
       }

@@ -8,8 +8,10 @@ use Rattle.model.specs.Refusals.{other_kinds, seal_refusal, write_refusal}
 use Rattle.model.specs.Steps.{Step}
 use Rattle.model.specs.Worlds.{Store, World, Call, Outcome, Event, work_piece}
 use Rattle.sheets.specs.Checks.{IsTable}
+use Rattle.store.specs.declared.fault.BlockFault.{Ghosts as FaultWords}
+use Rattle.store.specs.declared.store.Store.{Ghosts as StoreWords}
 use Rattle.contents.specs.Faults.{told}
-use Rattle.contents.specs.Setups.{setup}
+use Rattle.contents.specs.Setups.{setup, meaning}
 use Rattle.contents.specs.declared.fault.RegisterFault.{RegisterFault}
 use Rattle.register.specs.Worlds.{batch_in, closed_world, open_world, refused_event}
 use Rattle.register.specs.declared.batch.Closed.{Closed}
@@ -23,28 +25,28 @@ pub record MaySeal {S K Row V : Type 0} (x : Kinds K Row V) (s : Store) (o : Ope
   pub fits : None ≡ write_refusal (image_length x (contents o.seed table.0.0)) s.count s.protected
 
 -- the looks before a seal writes: it may, or it is refused with everything as it was
-abbrev pub SealSeen : {S F K Row V : Type 0} → KeyKind K Row → ValueKind V → (F → ℕ) → (F → ℕ) → (S → Store) → Open S → List (Option (Record Row V)) → List ℕ → Result Unit (RegisterFault F) → Type 0
-SealSeen k v number block d o cells work (Ok u) = MaySeal (kinds_of k v) (d o.store) o cells work
-SealSeen k v number block d o cells work (Err f) =
-    Step (setup k v) (open_world d o cells) (refused_event Call.seal (work_piece work) (told number block f) (open_world d o cells))
+abbrev pub SealSeen : {S F K Row V : Type 0} → KeyKind K Row → ValueKind V → FaultWords F → StoreWords S F → Open S → List (Option (Record Row V)) → List ℕ → Result Unit (RegisterFault F) → Type 0
+SealSeen k v w d o cells work (Ok u) = MaySeal (kinds_of k v) (meaning d o.store) o cells work
+SealSeen k v w d o cells work (Err f) =
+    Step (setup k v) (open_world d o cells) (refused_event Call.seal (work_piece work) (told w f) (open_world d o cells))
 
 -- what seal answers: the closed register, or the batch, its token and the fault
 abbrev pub SealingOf : Type 0 → Type 0 → Type 0
 SealingOf S F = Result (Closed S) (Open S × Token × RegisterFault F)
 
-abbrev pub sealing_outcome : {S F Row V : Type 0} → (F → ℕ) → (F → ℕ) → SealingOf S F → Outcome Row V
-sealing_outcome number block (Ok c) = Outcome.accepted
-sealing_outcome number block (Err back) = Outcome.refused (told number block back.2)
+abbrev pub sealing_outcome : {S F Row V : Type 0} → FaultWords F → SealingOf S F → Outcome Row V
+sealing_outcome w (Ok c) = Outcome.accepted
+sealing_outcome w (Err back) = Outcome.refused (told w back.2)
 
-abbrev pub sealing_world : {S F Row V : Type 0} → (S → Store) → SealingOf S F → List (Option (Record Row V)) → World Row V
+abbrev pub sealing_world : {S F Row V : Type 0} → StoreWords S F → SealingOf S F → List (Option (Record Row V)) → World Row V
 sealing_world d (Ok c) cells = closed_world d c cells
 sealing_world d (Err back) cells = open_world d back.0 cells
 
-abbrev pub seal_event : {S F Row V : Type 0} → (F → ℕ) → (F → ℕ) → (S → Store) → List ℕ → SealingOf S F → List (Option (Record Row V)) → List ℕ → Event Row V
-seal_event number block d work r cells work' = record {
+abbrev pub seal_event : {S F Row V : Type 0} → FaultWords F → StoreWords S F → List ℕ → SealingOf S F → List (Option (Record Row V)) → List ℕ → Event Row V
+seal_event w d work r cells work' = record {
   call = Call.seal;
   lent = work_piece work;
-  outcome = sealing_outcome number block r;
+  outcome = sealing_outcome w r;
   after = sealing_world d r cells;
   back = work_piece work';
 }

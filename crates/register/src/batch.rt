@@ -107,7 +107,7 @@ impl<S> Open<S> {
 impl<S: Store> Open<S> {
     // Sees to the kinds, which are to be those under which the batch was opened.
     fn check_kinds<K: Key, V: Value>(&self) -> Result<(), RegisterFault<S::Fault>>
-        ensures { told_if S.Fault.BlockFault.number S.Fault.BlockFault.block result ≡ first ((other_kinds (kinds_of K.Key.kind V.Value.kind) (batch_in self.now), kind_fault) ∷ []) }
+        ensures { told_if S.Fault.BlockFault result ≡ first ((other_kinds (kinds_of K.Key.kind V.Value.kind) (batch_in self.now), kind_fault) ∷ []) }
     {
         if self.key_kind == K::kind_number() && self.value_kind == V::kind_number() {
             Ok(())
@@ -123,7 +123,7 @@ impl<S: Store> Open<S> {
         held: usize,
         wanted: usize,
     ) -> Result<(), RegisterFault<S::Fault>>
-        ensures { told_if S.Fault.BlockFault.number S.Fault.BlockFault.block result ≡ list_refusal (other_kinds (kinds_of K.Key.kind V.Value.kind) (batch_in self.now)) room wanted held }
+        ensures { told_if S.Fault.BlockFault result ≡ list_refusal (other_kinds (kinds_of K.Key.kind V.Value.kind) (batch_in self.now)) room wanted held }
     {
         self.check_kinds::<K, V>()?;
         if room != 1024 || held < wanted {

@@ -1,6 +1,6 @@
 // Abandon.
 ghost use Rattle.std.specs.Prelude.{ℕ};
-ghost use Rattle.contents.specs.Setups.{setup, meaning};
+ghost use Rattle.contents.specs.Setups.{setup};
 ghost use Rattle.model.specs.Steps.{Step};
 ghost use Rattle.model.specs.Worlds.{Call, Outcome};
 ghost use Rattle.register.specs.Worlds.{closed_world, open_world, plain_event};
@@ -17,7 +17,7 @@ pub fn abandon<S: Store, K: Key, V: Value>(
     token: Token,
     cells: &mut [Option<Record<K::Row, V>>],
 ) -> Closed<S>
-    ensures { Step (setup K.Key.kind V.Value.kind) (open_world (meaning S.Store.count S.Store.protected S.Store.shown S.Store.kept) batch cells.old) (plain_event Call.abandon Outcome.accepted (closed_world (meaning S.Store.count S.Store.protected S.Store.shown S.Store.kept) result cells.new)) }
+    ensures { Step (setup K.Key.kind V.Value.kind) (open_world S.Store batch cells.old) (plain_event Call.abandon Outcome.accepted (closed_world S.Store result cells.new)) }
 {
     cells.fill(None);
     batch.close(token)

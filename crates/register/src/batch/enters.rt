@@ -1,6 +1,6 @@
 // Enter and list: the calls on an open batch that leave it open.
 ghost use Rattle.std.specs.Prelude.{ℕ};
-ghost use Rattle.contents.specs.Setups.{setup, meaning};
+ghost use Rattle.contents.specs.Setups.{setup};
 ghost use Rattle.model.specs.Steps.{Step};
 ghost use Rattle.register.specs.Sheets.{enter_event, list_event};
 ghost use Rattle.register.specs.Worlds.{open_world};
@@ -24,7 +24,7 @@ pub fn enter<S: Store, K: Key, V: Value>(
     sheet: &[Command<K::Row, V>],
     answers: &mut [Answer<V>],
 ) -> Result<(), RegisterFault<S::Fault>>
-    ensures { Step (setup K.Key.kind V.Value.kind) (open_world (meaning S.Store.count S.Store.protected S.Store.shown S.Store.kept) batch.old cells.old) (enter_event S.Fault.BlockFault.number S.Fault.BlockFault.block sheet.now scratch.old answers.old result (open_world (meaning S.Store.count S.Store.protected S.Store.shown S.Store.kept) batch.new cells.new) scratch.new answers.new) }
+    ensures { Step (setup K.Key.kind V.Value.kind) (open_world S.Store batch.old cells.old) (enter_event S.Fault.BlockFault sheet.now scratch.old answers.old result (open_world S.Store batch.new cells.new) scratch.new answers.new) }
 {
     batch.check_kinds::<K, V>()?;
     let count = run_sheet::<K, V>(
@@ -47,7 +47,7 @@ pub fn list<S: Store, K: Key, V: Value>(
     cells: &[Option<Record<K::Row, V>>],
     output: &mut [Option<Record<K::Row, V>>],
 ) -> Result<usize, RegisterFault<S::Fault>>
-    ensures { Step (setup K.Key.kind V.Value.kind) (open_world (meaning S.Store.count S.Store.protected S.Store.shown S.Store.kept) batch.now cells.now) (list_event S.Fault.BlockFault.number S.Fault.BlockFault.block output.old result (open_world (meaning S.Store.count S.Store.protected S.Store.shown S.Store.kept) batch.now cells.now) output.new) }
+    ensures { Step (setup K.Key.kind V.Value.kind) (open_world S.Store batch.now cells.now) (list_event S.Fault.BlockFault output.old result (open_world S.Store batch.now cells.now) output.new) }
 {
     batch.check_lent::<K, V>(cells.len(), output.len(), batch.count)?;
     batch.check_cells::<K, V>(cells)?;

@@ -1,7 +1,7 @@
 // Start and begin.
 ghost use Rattle.std.specs.Prelude.{◌≡◌, ℕ};
 ghost use Rattle.contents.specs.Faults.{told_if};
-ghost use Rattle.contents.specs.Setups.{setup, meaning};
+ghost use Rattle.contents.specs.Setups.{setup};
 ghost use Rattle.model.specs.Refusals.{start_refusal};
 ghost use Rattle.model.specs.Steps.{Step};
 ghost use Rattle.model.specs.Worlds.{Call, no_piece, work_piece};
@@ -18,7 +18,7 @@ use store::store::Store;
 
 // Sees to the size of the store, then to the number of cells.
 fn check_start<F: BlockFault>(blocks: usize, room: usize) -> Result<(), RegisterFault<F>>
-    ensures { told_if F.BlockFault.number F.BlockFault.block result ≡ start_refusal blocks room }
+    ensures { told_if F.BlockFault result ≡ start_refusal blocks room }
 {
     if blocks == 0 || blocks > 2048 {
         return Err(RegisterFault::Size);
@@ -35,7 +35,7 @@ pub fn start<S: Store, K: Key, V: Value>(
     seed: u32,
     cells: &mut [Option<Record<K::Row, V>>],
 ) -> Opening<S>
-    ensures { Step (setup K.Key.kind V.Value.kind) (closed_world (meaning S.Store.count S.Store.protected S.Store.shown S.Store.kept) closed cells.old) (opening_event (Call.start seed) no_piece S.Fault.BlockFault.number S.Fault.BlockFault.block (meaning S.Store.count S.Store.protected S.Store.shown S.Store.kept) result cells.new no_piece) }
+    ensures { Step (setup K.Key.kind V.Value.kind) (closed_world S.Store closed cells.old) (opening_event (Call.start seed) no_piece S.Fault.BlockFault S.Store result cells.new no_piece) }
 {
     if let Err(fault) = check_start(closed.store.count(), cells.len()) {
         return Err((closed, fault));
@@ -50,7 +50,7 @@ pub fn begin<S: Store, K: Key, V: Value>(
     cells: &mut [Option<Record<K::Row, V>>],
     work: &mut [u8],
 ) -> Opening<S>
-    ensures { Step (setup K.Key.kind V.Value.kind) (closed_world (meaning S.Store.count S.Store.protected S.Store.shown S.Store.kept) closed cells.old) (opening_event Call.begin (work_piece work.old) S.Fault.BlockFault.number S.Fault.BlockFault.block (meaning S.Store.count S.Store.protected S.Store.shown S.Store.kept) result cells.new (work_piece work.new)) }
+    ensures { Step (setup K.Key.kind V.Value.kind) (closed_world S.Store closed cells.old) (opening_event Call.begin (work_piece work.old) S.Fault.BlockFault S.Store result cells.new (work_piece work.new)) }
 {
     match find_contents::<S, K, V>(&closed.store, cells, work) {
         Ok((seed, count)) => Ok(closed.open::<K, V>(seed, count)),

@@ -1,6 +1,6 @@
 // A round of calls, from a closed register to a closed register.
 ghost use Rattle.std.specs.Prelude.{ℕ};
-ghost use Rattle.contents.specs.Setups.{setup, meaning};
+ghost use Rattle.contents.specs.Setups.{setup};
 ghost use Rattle.model.specs.Runs.{Ran};
 ghost use Rattle.register.specs.Worlds.{closed_world};
 
@@ -26,7 +26,7 @@ pub fn keep_sheet<S: Store, K: Key, V: Value>(
     answers: &mut [Answer<V>],
     work: &mut [u8],
 ) -> Closed<S>
-    ensures { Ran (setup K.Key.kind V.Value.kind) (closed_world (meaning S.Store.count S.Store.protected S.Store.shown S.Store.kept) closed cells.old) (closed_world (meaning S.Store.count S.Store.protected S.Store.shown S.Store.kept) result cells.new) }
+    ensures { Ran (setup K.Key.kind V.Value.kind) (closed_world S.Store closed cells.old) (closed_world S.Store result cells.new) }
 {
     match start::<S, K, V>(closed, seed, cells) {
         Err((closed, _)) => closed,

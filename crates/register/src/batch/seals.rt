@@ -1,6 +1,6 @@
 // Seal: the image of the batch, written into the store.
 ghost use Rattle.std.specs.Prelude.{◌≡◌, ℕ, ◌*◌, nat_lt};
-ghost use Rattle.contents.specs.Setups.{setup, meaning};
+ghost use Rattle.contents.specs.Setups.{setup};
 ghost use Rattle.model.specs.Claims.{ListsOfCalls};
 ghost use Rattle.model.specs.Steps.{Step};
 ghost use Rattle.register.specs.Seals.{SealSeen, seal_event};
@@ -28,7 +28,7 @@ fn check_seal<S: Store, K: Key, V: Value>(
     cells: &[Option<Record<K::Row, V>>],
     work: &[u8],
 ) -> Result<(), RegisterFault<S::Fault>>
-    ensures { SealSeen K.Key.kind V.Value.kind S.Fault.BlockFault.number S.Fault.BlockFault.block (meaning S.Store.count S.Store.protected S.Store.shown S.Store.kept) batch.now cells.now work.now result }
+    ensures { SealSeen K.Key.kind V.Value.kind S.Fault.BlockFault S.Store batch.now cells.now work.now result }
 {
     let blocks = batch.store.count();
     batch.check_lent::<K, V>(cells.len(), work.len() / 32, blocks)?;
@@ -49,7 +49,7 @@ fn seal_batch<S: Store, K: Key, V: Value>(
     cells: &mut [Option<Record<K::Row, V>>],
     work: &mut [u8],
 ) -> Sealing<S>
-    ensures { Step (setup K.Key.kind V.Value.kind) (open_world (meaning S.Store.count S.Store.protected S.Store.shown S.Store.kept) batch cells.old) (seal_event S.Fault.BlockFault.number S.Fault.BlockFault.block (meaning S.Store.count S.Store.protected S.Store.shown S.Store.kept) work.old result cells.new work.new) }
+    ensures { Step (setup K.Key.kind V.Value.kind) (open_world S.Store batch cells.old) (seal_event S.Fault.BlockFault S.Store work.old result cells.new work.new) }
 {
     if let Err(fault) = check_seal::<S, K, V>(&batch, cells, work) {
         return Err((batch, token, fault));
@@ -66,7 +66,7 @@ pub fn seal<S: Store, K: Key, V: Value>(
     cells: &mut [Option<Record<K::Row, V>>],
     work: &mut [u8],
 ) -> Sealing<S>
-    ensures step { Step (setup K.Key.kind V.Value.kind) (open_world (meaning S.Store.count S.Store.protected S.Store.shown S.Store.kept) batch cells.old) (seal_event S.Fault.BlockFault.number S.Fault.BlockFault.block (meaning S.Store.count S.Store.protected S.Store.shown S.Store.kept) work.old result cells.new work.new) }
+    ensures step { Step (setup K.Key.kind V.Value.kind) (open_world S.Store batch cells.old) (seal_event S.Fault.BlockFault S.Store work.old result cells.new work.new) }
     ensures lists { ListsOfCalls (setup K.Key.kind V.Value.kind) }
 {
     seal_batch::<S, K, V>(batch, token, cells, work)

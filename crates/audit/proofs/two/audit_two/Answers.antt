@@ -11,8 +11,8 @@ use Rattle.audit.proofs.two.audit_two.Goals as goal
 pub same_map-same-requires : goal.same_map-same-requires
 same_map-same-requires g c =
     let x = setup g.K.Key.kind g.V.Value.kind in
-    let s = meaning g.S.Store.count g.S.Store.protected g.S.Store.shown g.S.Store.kept c.args.first.now in
-    let t = meaning g.T.Store.count g.T.Store.protected g.T.Store.shown g.T.Store.kept c.args.second.now in
+    let s = meaning g.S.Store c.args.first.now in
+    let t = meaning g.T.Store c.args.second.now in
     record {
       held = (
         c.in-Ok.found.1,
@@ -25,14 +25,14 @@ same_map-same-requires g c =
 pub returns-in-Err : goal.returns-in-Err
 returns-in-Err g c =
     let x = setup g.K.Key.kind g.V.Value.kind in
-    let s = meaning g.S.Store.count g.S.Store.protected g.S.Store.shown g.S.Store.kept c.args.first.now in
-    let t = meaning g.T.Store.count g.T.Store.protected g.T.Store.shown g.T.Store.kept c.args.second.now in
+    let s = meaning g.S.Store c.args.first.now in
+    let t = meaning g.T.Store c.args.second.now in
     let cells = c.args.first_cells.now in
     let other = c.args.second_cells.now in
     let work = c.args.work.now in
     let w = (setup_laws g.K.Key.kind g.V.Value.kind g.met.K.Key.lawful g.met.V.Value.lawful).written in
-    let f = told g.S.Fault.BlockFault.number g.S.Fault.BlockFault.block c.in-Err.fault in
-    let r = comparison g.S.Fault.BlockFault.number g.S.Fault.BlockFault.block g.T.Fault.BlockFault.number g.T.Fault.BlockFault.block (Err (First c.in-Err.fault))
+    let f = told g.S.Fault.BlockFault c.in-Err.fault in
+    let r = comparison g.S.Fault.BlockFault g.T.Fault.BlockFault (Err (First c.in-Err.fault))
     c.examine.new.cells other c.examine.new.work in
     let both = first_refused x s t cells other work f c.examine.new.cells c.examine.new.work c.in-Err.ensures in
     record {
@@ -44,14 +44,14 @@ returns-in-Err g c =
 pub returns-in-Err-examine : goal.returns-in-Err-examine
 returns-in-Err-examine g c =
     let x = setup g.K.Key.kind g.V.Value.kind in
-    let s = meaning g.S.Store.count g.S.Store.protected g.S.Store.shown g.S.Store.kept c.args.first.now in
-    let t = meaning g.T.Store.count g.T.Store.protected g.T.Store.shown g.T.Store.kept c.args.second.now in
+    let s = meaning g.S.Store c.args.first.now in
+    let t = meaning g.T.Store c.args.second.now in
     let cells = c.args.first_cells.now in
     let other = c.args.second_cells.now in
     let work = c.args.work.now in
     let w = (setup_laws g.K.Key.kind g.V.Value.kind g.met.K.Key.lawful g.met.V.Value.lawful).written in
-    let f = told g.T.Fault.BlockFault.number g.T.Fault.BlockFault.block c.in-Err-examine.fault in
-    let r = comparison g.S.Fault.BlockFault.number g.S.Fault.BlockFault.block g.T.Fault.BlockFault.number g.T.Fault.BlockFault.block (Err (Second c.in-Err-examine.fault))
+    let f = told g.T.Fault.BlockFault c.in-Err-examine.fault in
+    let r = comparison g.S.Fault.BlockFault g.T.Fault.BlockFault (Err (Second c.in-Err-examine.fault))
     c.fill-in-Err-examine.new.self c.examine-2.new.cells c.examine-2.new.work in
     let empty : c.fill-in-Err-examine.new.self ≡ replicate (length c.examine.new.cells) None = c.fill-in-Err-examine.ensures.after (none_cloned _ (λ a e. e)) in
     let both = second_refused x s t cells other work c.in-Ok.found c.examine.new.cells c.fill-in-Err-examine.new.self c.examine.new.work c.in-Ok.ensures
@@ -65,13 +65,13 @@ returns-in-Err-examine g c =
 pub returns-in-Ok-examine : goal.returns-in-Ok-examine
 returns-in-Ok-examine g c =
     let x = setup g.K.Key.kind g.V.Value.kind in
-    let s = meaning g.S.Store.count g.S.Store.protected g.S.Store.shown g.S.Store.kept c.args.first.now in
-    let t = meaning g.T.Store.count g.T.Store.protected g.T.Store.shown g.T.Store.kept c.args.second.now in
+    let s = meaning g.S.Store c.args.first.now in
+    let t = meaning g.T.Store c.args.second.now in
     let cells = c.args.first_cells.now in
     let other = c.args.second_cells.now in
     let work = c.args.work.now in
     let w = (setup_laws g.K.Key.kind g.V.Value.kind g.met.K.Key.lawful g.met.V.Value.lawful).written in
-    let r = comparison g.S.Fault.BlockFault.number g.S.Fault.BlockFault.block g.T.Fault.BlockFault.number g.T.Fault.BlockFault.block (Ok c.same_map-same.result)
+    let r = comparison g.S.Fault.BlockFault g.T.Fault.BlockFault (Ok c.same_map-same.result)
     c.fill.new.self c.fill-in-Ok-examine.new.self c.examine-2.new.work in
     let empty : c.fill.new.self ≡ replicate (length c.examine.new.cells) None = c.fill.ensures.after (none_cloned _ (λ a e. e)) in
     let other_empty : c.fill-in-Ok-examine.new.self ≡ replicate (length c.examine-2.new.cells) None = c.fill-in-Ok-examine.ensures.after (none_cloned _ (λ a e. e)) in

@@ -7,7 +7,7 @@ use Rattle.register.proofs.batch.opens.start.Goals as goal
 
 pub returns : goal.returns
 returns g c =
-    let d = meaning g.S.Store.count g.S.Store.protected g.S.Store.shown g.S.Store.kept in
+    let d = g.S.Store in
     let free = c.in_default.ensures ∙ ap (λ n. start_refusal n (length c.args.cells.now)) c.count.ensures in
-    started_step g.K.Key.kind g.V.Value.kind g.S.Fault.BlockFault.number g.S.Fault.BlockFault.block d c.args.closed c.args.cells.now c.fill.new.self c.args.seed
+    started_step g.K.Key.kind g.V.Value.kind g.S.Fault.BlockFault d c.args.closed c.args.cells.now c.fill.new.self c.args.seed
     c.open.result c.open.ensures.store c.open.ensures.batch (omega arith) free (c.fill.ensures.after (none_cloned _ (λ a e. e)))

@@ -6,7 +6,7 @@ use Rattle.register.proofs.batch.seals.check_seal.Goals as goal
 
 pub returns : goal.returns
 returns g c =
-    let d = meaning g.S.Store.count g.S.Store.protected g.S.Store.shown g.S.Store.kept in
+    let d = g.S.Store in
     let o = c.args.batch.now in
-    may_seal (kinds_of g.K.Key.kind g.V.Value.kind) (d o.store) o c.args.cells.now c.args.work.now c.image_len-long.result c.count-blocks.result c.protected.result
+    may_seal (kinds_of g.K.Key.kind g.V.Value.kind) (meaning d o.store) o c.args.cells.now c.args.work.now c.image_len-long.result c.count-blocks.result c.protected.result
     c.count-blocks.ensures c.in_ok-check_lent.ensures c.in_ok-check_cells.ensures c.image_len-long.ensures (sym c.more.ensures ∙ c.if-more.false) c.protected.ensures c.if-protected.false

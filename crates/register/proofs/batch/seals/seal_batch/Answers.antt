@@ -6,16 +6,16 @@ use Rattle.register.proofs.batch.seals.seal_batch.Goals as goal
 
 pub save_image-requires : goal.save_image-requires
 save_image-requires g c =
-    let d = meaning g.S.Store.count g.S.Store.protected g.S.Store.shown g.S.Store.kept in
+    let d = g.S.Store in
     let o = c.args.batch in
     let x = kinds_of g.K.Key.kind g.V.Value.kind in
-    let may = may_write x (d o.store) o c.args.cells.now c.args.work.now c.in_default.ensures in
-    record { «open» = may.1; suffice = suffices x (d o.store) o c.args.cells.now c.args.work.now c.in_default.ensures; room = may.0 }
+    let may = may_write x (meaning d o.store) o c.args.cells.now c.args.work.now c.in_default.ensures in
+    record { «open» = may.1; suffice = suffices x (meaning d o.store) o c.args.cells.now c.args.work.now c.in_default.ensures; room = may.0 }
 
 pub returns : goal.returns
 returns g c =
-    let d = meaning g.S.Store.count g.S.Store.protected g.S.Store.shown g.S.Store.kept in
+    let d = g.S.Store in
     let w = c.save_image.ensures in
-    sealed_step g.K.Key.kind g.V.Value.kind g.S.Fault.BlockFault.number g.S.Fault.BlockFault.block d c.args.batch c.args.cells.now c.args.work.now c.in_default.ensures
+    sealed_step g.K.Key.kind g.V.Value.kind g.S.Fault.BlockFault d c.args.batch c.args.cells.now c.args.work.now c.in_default.ensures
     c.save_image.new.store c.close.result c.fill.new.self c.save_image.new.work c.close.ensures
     w.count w.protect w.shows w.keeps (c.fill.ensures.after (none_cloned _ (λ a e. e))) w.work
