@@ -12,7 +12,7 @@ use register::batch::ends::abandon;
 use register::batch::enters::{enter, list};
 use register::batch::opens::{begin, start};
 use register::batch::seals::seal;
-use register::batch::{Closed, Open, Opening, Sealing, Token};
+use register::batch::{Closed, Open, Opening, Token};
 use std::alloc::{AllocError, Global};
 use store::store::Store;
 
@@ -103,8 +103,8 @@ impl Desk {
             self.cells.as_mut_slice(),
             self.work.as_mut_slice(),
         ) {
-            Sealing::Sealed(closed) => self.begin(closed, Reply::Sealed(count)),
-            Sealing::Refused(batch, token, fault) => Turn::Goes(
+            Ok(closed) => self.begin(closed, Reply::Sealed(count)),
+            Err((batch, token, fault)) => Turn::Goes(
                 batch,
                 token,
                 Reply::Refused(fault.number()),
@@ -118,8 +118,8 @@ impl Desk {
             self.cells.as_mut_slice(),
             self.work.as_mut_slice(),
         ) {
-            Opening::Opened(batch, token) => Turn::Goes(batch, token, reply),
-            Opening::Refused(closed, fault) => Turn::Ends(closed, Reply::Refused(fault.number())),
+            Ok((batch, token)) => Turn::Goes(batch, token, reply),
+            Err((closed, fault)) => Turn::Ends(closed, Reply::Refused(fault.number())),
         }
     }
 

@@ -10,7 +10,7 @@ use lines::input::{parse, split_line};
 use lines::output::Reply;
 use maps::{Answer, Command};
 use numbers::papers::Papers;
-use register::batch::{Closed, Open, Opening, Token};
+use register::batch::{Closed, Open, Token};
 use std::io::Read;
 use store::fault::BlockFault;
 use store::plain::PlainStore;
@@ -129,8 +129,8 @@ fn serve<S: Store + Drop>(
     desk: &mut Desk,
 ) -> anyhow::Result<()> {
     let (closed, result) = match desk.start(closed) {
-        Opening::Opened(batch, token) => answer_all(rt, desk, batch, token, input),
-        Opening::Refused(closed, fault) => (
+        Ok((batch, token)) => answer_all(rt, desk, batch, token, input),
+        Err((closed, fault)) => (
             closed,
             print_reply(rt, Reply::Refused(fault.number())),
         ),
