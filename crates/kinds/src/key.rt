@@ -1,4 +1,7 @@
 // A kind of key, by its meaning.
+//
+// `Value` has four methods like those here. A trait above both would need code and front as ghost members of its own, tied to `kind` by laws,
+// and each clause that names `kind` would name them beside it: no plainer.
 ghost use Rattle.std.specs.Prelude.{◌≡◌, ℕ, ◌<◌, length, slice_index};
 ghost use Rattle.kinds.specs.Codes.{Reads};
 ghost use Rattle.kinds.specs.Kinds.{KeyKind, KeyLaws};

@@ -1,7 +1,5 @@
 -- Numbers of a fixed width as codes, the high byte first.
-use Rattle.std.specs.Prelude.{◌≡◌, ℕ, zero, suc, ◌/◌, ◌%◌, ◌^◌, ◌<◌, Bool, true, cond, ◌&&◌, List, [], ◌∷◌, ◌++◌, length, take, Option, ◌==◌, nat_le, nat_lt}
-use Rattle.std.specs.declared.cmp.Ordering.TheVariants.{Less, Equal, Greater}
-use Rattle.std.specs.declared.cmp.Ordering.{Ordering}
+use Rattle.std.specs.Prelude.{◌≡◌, ℕ, zero, suc, ◌/◌, ◌%◌, ◌^◌, ◌<◌, Bool, true, ◌&&◌, List, [], ◌∷◌, ◌++◌, length, take, Option, nat_le, nat_lt}
 use Rattle.std.proofs.Common.{subst}
 use Rattle.std.proofs.lemmas.Int.Digits.{number_lt}
 use Rattle.std.proofs.lemmas.List.{length-take-le}
@@ -9,10 +7,6 @@ use Rattle.std.proofs.lemmas.Bool.{and_parts, leb-true, ltb-true}
 use Rattle.std.specs.Int.Digits.{number_from_digits, AllBelowBase}
 use Rattle.std.specs.List.{list_all}
 use Rattle.kinds.specs.Checked.{checked}
-
--- the order of numbers, the smaller first
-abbrev pub ranked : ℕ → ℕ → Ordering
-ranked a b = cond (nat_lt a b) Less (cond (a == b) Equal Greater)
 
 -- the w low bytes of a number
 abbrev pub bytes_of : ℕ → ℕ → List ℕ

@@ -1,4 +1,5 @@
-// The papers that a member of staff holds, one bit for each.
+// The papers that a member of staff holds, one bit for each. Not one generic type with `StaffNumber`: a number and a set of bits have little but
+// their form in common, and their users would name a width in place of what they mean.
 ghost use Rattle.std.specs.Prelude.{◌≡◌, ◌^◌, ◌<◌};
 
 #[derive(Clone, Copy, PartialEq, Eq, Debug)]

@@ -2,51 +2,31 @@
 use Rattle.std.specs.Prelude.{◌≡◌, ℕ, ◌<◌, ◌⊎◌, List, [], ◌∷◌, refl}
 use Rattle.std.specs.declared.cmp.Ordering.TheVariants.{Less, Equal, Greater}
 use Rattle.std.specs.declared.cmp.Ordering.{Ordering}
-use Rattle.std.proofs.Common.{sym, ap, ap₂, subst, ◌∙◌, inl, inr, arith}
+use Rattle.std.proofs.Common.{sym, ap, subst, inl, inr, arith}
 use Rattle.std.proofs.lemmas.Bool.{cases_order}
+use Rattle.std.proofs.lemmas.Cmp.{tied_itself}
+use Rattle.std.proofs.lemmas.Map.Lookups.{exact_bytes}
 use Rattle.std.proofs.lemmas.Bool.Decides.{nat_tests}
-use Rattle.std.specs.Cmp.Lexicographic.{slice_cmp}
+use Rattle.std.specs.Cmp.Lexicographic.{slice_cmp, nat_list_cmp_total}
 use Rattle.std.specs.Ordering.{ordering_reverse, nat_cmp}
 use Rattle.text.specs.Lexical.{Earlier, Lexical}
 use Rattle.text.specs.Rows.{lex}
 
 pub lex_same : (xs : List ℕ) → lex xs xs ≡ Equal
-lex_same [] = refl
-lex_same (x ∷ xs) = let h = lex_same xs in grind (arith, nat_tests)
+lex_same xs = tied_itself nat_list_cmp_total xs
 
 pub lex_equal : (xs ys : List ℕ) → lex xs ys ≡ Equal → xs ≡ ys
-lex_equal [] [] h = refl
-lex_equal [] (y ∷ ys) h = let z : ◌≡◌ {A = ℕ} 0 1 = cc in absurd (omega arith)
-lex_equal (x ∷ xs) [] h = let z : ◌≡◌ {A = ℕ} 0 1 = cc in absurd (omega arith)
-lex_equal (x ∷ xs) (y ∷ ys) h =
-    let e : x ≡ y = grind (arith, nat_tests) in
-    let r : lex xs ys ≡ Equal = grind (arith, nat_tests) in
-    ap₂ (λ u us. u ∷ us) e (lex_equal xs ys r)
+lex_equal = exact_bytes
 
 pub lex_turned : (xs ys : List ℕ) → lex ys xs ≡ ordering_reverse (lex xs ys)
-lex_turned [] [] = refl
-lex_turned [] (y ∷ ys) = refl
-lex_turned (x ∷ xs) [] = refl
-lex_turned (x ∷ xs) (y ∷ ys) = let h = lex_turned xs ys in grind (arith, nat_tests)
+lex_turned xs ys = nat_list_cmp_total.antisymm ys xs
 
 pub lex_chain : (xs ys zs : List ℕ) → lex xs ys ≡ Less → lex ys zs ≡ Less → lex xs zs ≡ Less
-lex_chain [] [] zs g h = h
-lex_chain [] (y ∷ ys) [] g h = let z : ◌≡◌ {A = ℕ} 0 1 = cc in absurd (omega arith)
-lex_chain [] (y ∷ ys) (z ∷ zs) g h = refl
-lex_chain (x ∷ xs) [] zs g h = let z : ◌≡◌ {A = ℕ} 0 1 = cc in absurd (omega arith)
-lex_chain (x ∷ xs) (y ∷ ys) [] g h = let z : ◌≡◌ {A = ℕ} 0 1 = cc in absurd (omega arith)
-lex_chain (x ∷ xs) (y ∷ ys) (z ∷ zs) g h = let t = lex_chain xs ys zs in grind (arith, nat_tests)
-
--- the order of two slices, as std says it
-slice_cmp_lex : (xs ys : List ℕ) → slice_cmp nat_cmp xs ys ≡ lex xs ys
-slice_cmp_lex [] [] = refl
-slice_cmp_lex [] (y ∷ ys) = refl
-slice_cmp_lex (x ∷ xs) [] = refl
-slice_cmp_lex (x ∷ xs) (y ∷ ys) = let h = slice_cmp_lex xs ys in grind (arith, nat_tests)
+lex_chain = nat_list_cmp_total.trans
 
 -- what `cmp` of two slices answers
 pub lex_from_cmp : (xs ys : List ℕ) (o : Ordering) → o ≡ slice_cmp nat_cmp xs ys → o ≡ lex xs ys
-lex_from_cmp xs ys o h = h ∙ slice_cmp_lex xs ys
+lex_from_cmp xs ys o h = h
 
 -- ---- that order in its own words
 with_front : (x : ℕ) (xs ys : List ℕ) → Earlier xs ys → Earlier (x ∷ xs) (x ∷ ys)

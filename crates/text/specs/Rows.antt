@@ -1,7 +1,8 @@
 -- What rows of texts say, whatever bytes a kind of text keeps: code, order, hash, and which rows are a key's.
-use Rattle.std.specs.Prelude.{ℕ, Bool, cond, ◌&&◌, List, [], ◌∷◌, length, take, drop, Some, None, Option, ◌==◌, nat_le, nat_lt, slice_index}
-use Rattle.std.specs.declared.cmp.Ordering.TheVariants.{Less, Equal, Greater}
+use Rattle.std.specs.Prelude.{ℕ, Bool, cond, ◌&&◌, List, ◌∷◌, length, take, drop, Some, None, Option, ◌==◌, nat_le, nat_lt, slice_index}
 use Rattle.std.specs.declared.cmp.Ordering.{Ordering}
+use Rattle.std.specs.Cmp.Lexicographic.{slice_cmp}
+use Rattle.std.specs.Ordering.{nat_cmp}
 use Rattle.std.specs.List.{list_all}
 use Rattle.text.specs.Fnv.{fnv}
 use Rattle.text.specs.Words.{unpacked, packed}
@@ -20,10 +21,7 @@ row_code r = r.len ∷ row_text r
 
 -- byte by byte, a beginning before its continuation
 abbrev pub lex : List ℕ → List ℕ → Ordering
-lex [] [] = Equal
-lex [] (y ∷ ys) = Less
-lex (x ∷ xs) [] = Greater
-lex (x ∷ xs) (y ∷ ys) = cond (nat_lt x y) Less (cond (x == y) (lex xs ys) Greater)
+lex xs ys = slice_cmp nat_cmp xs ys
 
 abbrev pub row_order : TextRow → TextRow → Ordering
 row_order r s = lex (row_text r) (row_text s)

@@ -59,7 +59,7 @@ impl TextRow {
         bytes
     }
 
-    // How many of the bytes are the text's.
+    // How many of the bytes are the text's: no more than there are, whatever a plain row says.
     pub(crate) fn text_len(&self) -> usize
         ensures { result ≡ length (row_text self.now) }
     {
