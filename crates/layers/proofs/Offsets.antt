@@ -4,14 +4,14 @@ use Rattle.std.proofs.lemmas.List.{get_or-set_same, get_or-set_other}
 use Rattle.std.proofs.lemmas.Bool.{ltb-true}
 use Rattle.store.specs.Places.{Place}
 use Rattle.layers.specs.Layers.{offset_count, offset_places, offset_place}
-use Rattle.store.specs.Answers.{given, refused, unreadable, told, read_answer, write_answer, after_write, shown_after}
+use Rattle.store.specs.Answers.{given, refused, unreadable, told, read_answer, shown_after}
 use Rattle.store.specs.Faults.{fault_number, fault_block}
 use Rattle.store.specs.Told.{tells}
 use Rattle.store.specs.declared.fault.BlockFault.{Ghosts}
-use Rattle.store.specs.declared.fault.StoreFault.TheVariants.{Unreadable, Protected}
+use Rattle.store.specs.declared.fault.StoreFault.TheVariants.{Unreadable}
 use Rattle.store.proofs.Mapped.{as_fault}
 use Rattle.store.proofs.Rows.{get_or_places, set_places}
-use Rattle.store.proofs.Told.{read_block, read_fault, gives_block, gives_fault, taken, taken_answer, not_taken, refused_answer, write_given, write_refused}
+use Rattle.store.proofs.Told.{read_block, read_fault, gives_block, gives_fault, taken, not_taken}
 
 some_told : (b : Bool) (x y : ℕ) → Some x ≡ cond b (Some y) None → (b ≡ true) × (x ≡ y)
 some_told true x y e = (refl, cc)
@@ -43,20 +43,10 @@ module _ (first wished n i : ℕ) (xs : List Place) (at : ℕ) (lies : Some at �
   offset_read fault (Ok b) e = offset_block b e
   offset_read fault (Err f) e = offset_fault _ _ e
 
-  -- A write, from what the store below told.
-  module _ (locked : Bool) where
-    pub offset_answer : {F : Type 0} (fault : Ghosts F) (r : Result (Unit {0}) F) → tells fault r ≡ write_answer n locked at
-        → told fault_number fault_block (as_fault (Protected i) r) ≡ write_answer (offset_count first wished n) locked i
-    offset_answer fault (Ok u) e = sym (taken_answer _ locked i lt (write_given n locked at below e))
-    offset_answer fault (Err f) e = sym (refused_answer _ locked i lt (write_refused n locked at below _ _ e))
-
+  -- What shows after a write.
   module _ (b : List ℕ) (xs' : List Place) where
     after : xs' ≡ shown_after n false xs at b → xs' ≡ set xs at (Some b)
     after shows = shows ∙ taken n false at below xs (set xs at (Some b)) refl
-
-    pub offset_below : (locked : Bool) → xs' ≡ shown_after n locked xs at b → xs' ≡ after_write (offset_count first wished n) locked i xs (set xs (first + i) (Some b))
-    offset_below true shows = shows ∙ not_taken n true at below xs (set xs at (Some b)) refl ∙ sym (not_taken _ true i lt xs (set xs (first + i) (Some b)) refl)
-    offset_below false shows = after shows ∙ ap (λ k. set xs k (Some b)) found.1 ∙ sym (taken _ false i lt xs (set xs (first + i) (Some b)) refl)
 
     pub offset_after : (locked : Bool) → xs' ≡ shown_after n locked xs at b → (n' : ℕ) → length xs ≡ n → n' ≡ n
         → offset_places first wished n' xs' ≡ shown_after (offset_count first wished n) locked (offset_places first wished n xs) i b

@@ -16,10 +16,6 @@ get_or_places n f i d h = get_or-map-range_with_len f 0 n i i d h (omega arith)
 pub row_is : (xs : List Place) (n : ℕ) (f : ℕ → Place) (d : Place) → length xs ≡ n → ((k : ℕ) → k < n → get_or xs k d ≡ f k) → xs ≡ places n f
 row_is xs n f d l at = fill_by_all f xs n d l at
 
-pub same_rows : (m n : ℕ) (f g : ℕ → Place) → m ≡ n → ((k : ℕ) → k < n → f k ≡ g k) → places m f ≡ places n g
-same_rows m n f g e at =
-    row_is (places m f) n g (f 0) (length_places m f ∙ e) (λ k h. get_or_places m f k (f 0) (omega arith) ∙ at k h)
-
 -- a row that differs at i alone
 pub set_places : (m n : ℕ) (f g : ℕ → Place) (i : ℕ) (p : Place) → m ≡ n → i < n → g i ≡ p → ((k : ℕ) → k < n → k ≢ i → g k ≡ f k) → places m g ≡ set (places n f) i p
 set_places m n f g i p e lt here else =

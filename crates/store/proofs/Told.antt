@@ -1,7 +1,7 @@
 -- What a store's answer tells of what it shows, and the other way round.
-use Rattle.std.proofs.Common.{◌≡◌, ℕ, ◌<◌, Bool, true, false, cond, List, get_or, Some, None, sym, refl, ap, ◌∙◌, arith, rules}
+use Rattle.std.proofs.Common.{◌≡◌, ℕ, ◌<◌, Bool, true, false, List, get_or, Some, None, sym, refl, ap, ◌∙◌, arith, rules}
 use Rattle.store.specs.Places.{Place}
-use Rattle.store.specs.Answers.{Answer, given, refused, read_answer, write_answer, place_answer, after_write, unreadable, write_protected}
+use Rattle.store.specs.Answers.{given, refused, read_answer, place_answer, after_write, unreadable}
 
 pub within_read : (n : ℕ) (xs : List Place) (i : ℕ) → i < n → read_answer n xs i ≡ place_answer i (get_or xs i None)
 within_read n xs i h = search rules
@@ -34,30 +34,5 @@ module _ (n : ℕ) (locked : Bool) (i : ℕ) (h : i < n) where
   pub taken : {X : Type 0} (was becomes : X) → locked ≡ false → after_write n locked i was becomes ≡ becomes
   taken was becomes e = search rules
 
-  pub taken_answer : locked ≡ false → write_answer n locked i ≡ given tt
-  taken_answer e = search rules
-
   pub not_taken : {X : Type 0} (was becomes : X) → locked ≡ true → after_write n locked i was becomes ≡ was
   not_taken was becomes e = search rules
-
-  pub refused_answer : locked ≡ true → write_answer n locked i ≡ write_protected i
-  refused_answer e = search rules
-
-  within_write : write_answer n locked i ≡ cond locked (write_protected i) (given tt)
-  within_write = search rules
-
-lock_told : (locked : Bool) (i : ℕ) → given (tt {0}) ≡ cond locked (write_protected i) (given tt) → locked ≡ false
-lock_told true i e = let z : ◌≡◌ {A = ℕ} 0 1 = cc in absurd (omega arith)
-lock_told false i e = refl
-
-unlock_told : (locked : Bool) (i m k : ℕ) → ◌≡◌ {A = Answer (Unit {0})} (refused m k) (cond locked (write_protected i) (given tt)) → locked ≡ true
-unlock_told true i m k e = refl
-unlock_told false i m k e = let z : ◌≡◌ {A = ℕ} 0 1 = cc in absurd (omega arith)
-
-module _ (n : ℕ) (locked : Bool) (i : ℕ) (h : i < n) where
-  -- what an answer tells of the lock
-  pub write_given : given tt ≡ write_answer n locked i → locked ≡ false
-  write_given e = lock_told locked i (e ∙ within_write n locked i h)
-
-  pub write_refused : (m k : ℕ) → refused m k ≡ write_answer n locked i → locked ≡ true
-  write_refused m k e = unlock_told locked i m k (e ∙ within_write n locked i h)

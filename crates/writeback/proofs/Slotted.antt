@@ -47,10 +47,6 @@ apart_push (t ∷ ss) s e free =
     (not_from_false _ (held_push t.at ss s (not-true (is_held t.at ss) parts.0) (unlike t.at s.at apart_from.0)))
     (apart_push ss s parts.1 apart_from.1)
 
--- what is left once the longest held is out
-pub apart_rest : (s : Slot) (ss hs : List Slot) → s ∷ ss ≡ hs → apart hs ≡ true → apart ss ≡ true
-apart_rest s ss hs e h = (and_parts (not (is_held s.at ss)) (apart ss) (ap apart e ∙ h)).1
-
 pub apart_renewed : (ss hs : List Slot) (s : Slot) → hs ≡ renewed ss s → apart ss ≡ true → apart hs ≡ true
 apart_renewed ss hs s e h = ap apart e ∙ apart_push (without s.at ss) s (apart_without s.at ss h) (not_in_without s.at ss)
 

@@ -1,10 +1,9 @@
-ghost use Rattle.std.specs.Prelude.{◌≡◌, min, [], OnOk};
+ghost use Rattle.std.specs.Prelude.{◌≡◌, min, OnOk};
 ghost use Rattle.store.specs.Stores.{back_told, Writes};
 ghost use Rattle.store.specs.Told.{tells};
 ghost use Rattle.layers.specs.Layers.{offset_count, offset_places, mirror_places};
 ghost use Rattle.store.specs.Lent.{plain_count, plain_places};
 ghost use Rattle.store.specs.Sums.{checked_count, checked_places};
-ghost use Rattle.writeback.specs.Holds.{held_list};
 ghost use Rattle.writeback.specs.Stacks.{stack_count, stack_protected, stack_shown, stack_kept};
 
 use crate::write_back::WriteBack;
@@ -18,24 +17,6 @@ use store::store::{Block, Store};
 
 // The stack that is delivered.
 pub type Stack<'a> = WriteBack<Mirror<Offset<PlainStore<'a>>, CheckedStore<'a>>>;
-
-// The layers, one on the other.
-fn layers<'a>(
-    plain: &'a mut [u8],
-    first: usize,
-    wished: usize,
-    checked: &'a mut [u8],
-    protected: bool,
-) -> Stack<'a>
-    ensures plain { (result.below.left.below.bytes.now ≡ plain.old) × (result.below.left.below.locked ≡ protected) }
-    ensures window { (result.below.left.first ≡ first) × (result.below.left.wished ≡ wished) }
-    ensures checked { (result.below.right.bytes.now ≡ checked.old) × (result.below.right.locked ≡ protected) }
-    ensures held { held_list result.held ≡ [] }
-{
-    let left = Offset::new(PlainStore::new(plain, protected), first, wished);
-    let right = CheckedStore::new(checked, protected);
-    WriteBack::new(Mirror::new(left, right))
-}
 
 // The stack over lent bytes: those of the plain store, of which it uses `wished` blocks from `first` on or as many as
 // there are, and those of the checked store.
@@ -51,7 +32,9 @@ pub fn stack<'a>(
     ensures shows { stack_shown result ≡ mirror_places (offset_count first wished (plain_count plain.old)) (checked_count checked.old) (offset_places first wished (plain_count plain.old) (plain_places plain.old)) (checked_places checked.old) }
     ensures keeps { stack_kept result ≡ stack_shown result }
 {
-    layers(plain, first, wished, checked, protected)
+    let left = Offset::new(PlainStore::new(plain, protected), first, wished);
+    let right = CheckedStore::new(checked, protected);
+    WriteBack::new(Mirror::new(left, right))
 }
 
 // A block written to the stack, flushed and read again: what holds of any store, at the stack.

@@ -1,4 +1,4 @@
-use Rattle.std.proofs.Common.{◌*◌, ◌∙◌, ap, arith, rules}
+use Rattle.std.proofs.Common.{◌*◌, ◌∙◌, ap, arith}
 use Rattle.store.proofs.Written.{part_shown}
 use Rattle.store.proofs.lent.block_of.Goals as goal
 
