@@ -1,7 +1,7 @@
 -- the checks one after the other: at each, what its fault makes of the whole, and what is known past it
-use Rattle.std.proofs.Common.{◌≡◌, ℕ, ◌+◌, ◌/◌, ◌^◌, ◌<◌, ◌≤◌, false, List, ◌++◌, map, length, get_or, take, drop, Ok, Err, Option, Result, sym, ap, ◌∙◌, subst, ap₂, arith}
+use Rattle.std.proofs.Common.{◌≡◌, ℕ, ◌+◌, ◌/◌, ◌^◌, ◌<◌, ◌≤◌, false, List, ◌++◌, map, length, get_or, drop, Ok, Err, Option, Result, sym, ap, ◌∙◌, subst, ap₂, arith}
 use native.Mathlib.Nat.{pow-le-pow_right}
-use Rattle.std.proofs.lemmas.List.{take_at, length-map}
+use Rattle.std.proofs.lemmas.List.{length-map}
 use Rattle.std.proofs.lemmas.Bool.{and_parts, leb-true}
 use Rattle.kinds.specs.declared.record.Record.{Record as Rec}
 use Rattle.layout.specs.Capacity.{capacity}
@@ -15,15 +15,10 @@ use Rattle.layout.proofs.Tests.{lowest_all}
 use Rattle.maps.specs.Maps.{Kinds, KindsLaws, Contents, contents, record_order, rule, lent, cells_of}
 use Rattle.image.specs.declared.fault.ImageFault.{ImageFault}
 use Rattle.image.specs.declared.fault.ImageFault.TheVariants.{Header, Bits, Layout}
-use Rattle.image.specs.Image.{code_of}
-use Rattle.image.specs.Opened.{byte, count_of, seed_of, capacity_of, Cells, unless, breaks, header_check, bits_check, front_of, cells_in, layout_check, tail_check, opened}
-use Rattle.image.specs.Rows.{keyed_cells}
-use Rattle.image.proofs.Bodies.{code_laws}
+use Rattle.image.specs.Opened.{byte, count_of, seed_of, capacity_of, Cells, unless, breaks, header_check, bits_check, cells_in, layout_check, tail_check, opened}
 use Rattle.image.proofs.Chains.{then_at, unless_ok, cond_ok}
 use Rattle.image.proofs.Headers.{counts}
 use Rattle.image.proofs.Only.{Passed, passed, found_count, found_cells, cap_is}
-use Rattle.image.proofs.Rows.{keyed_back}
-use Rattle.image.proofs.Walks.{walk_read}
 use Rattle.image_reader.specs.Parts.{place_of, Filled, Kept}
 use Rattle.image_reader.specs.Reads.{seed_and_count}
 

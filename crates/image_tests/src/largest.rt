@@ -2,7 +2,7 @@ use crate::copy_image;
 use kinds::key::Key;
 use kinds::record::Record;
 use numbers::hours::Hours;
-use store::fault::{BlockFault, StoreFault};
+use store::fault::StoreFault;
 use text::key::TextKey;
 use text::row::TextRow;
 
@@ -17,24 +17,20 @@ fn text_of(i: u16) -> [u8; 24] {
 
 // The home of text number `i` among 1024 cells, under seed 5.
 fn home(i: u16) -> usize {
-    match TextKey::new(&text_of(i)) {
-        Ok(key) => (u64::from(key.hash(5)) * 1024 / 4294967296) as usize,
-        Err(_) => 0,
-    }
+    TextKey::new(&text_of(i)).map_or(
+        0,
+        |key| (u64::from(key.hash(5)) * 1024 / 4294967296) as usize,
+    )
 }
 
-// Which text each cell holds, 768 for none: each text in the first free cell from its home on.
-fn owners() -> [u16; 1024] {
-    let mut owner = [768; 1024];
+// Which text each cell holds: each text in the first free cell from its home on, where cell 0 follows the last.
+fn owners() -> [Option<u16>; 1024] {
+    let mut owner = [None; 1024];
     for i in 0u16..768 {
-        let mut cell = home(i) % 1024;
-        for _ in 0..1024 {
-            if owner[cell % 1024] == 768 {
-                break;
-            }
-            cell = (cell % 1024 + 1) % 1024;
+        let (before, after) = owner.split_at_mut(home(i) % 1024);
+        if let Some(free) = after.iter_mut().chain(before).find(|cell| cell.is_none()) {
+            *free = Some(i);
         }
-        owner[cell % 1024] = i;
     }
     owner
 }
@@ -42,27 +38,19 @@ fn owners() -> [u16; 1024] {
 // The image of all 768 texts, text number `i` with `i` quarter hours in week 9, in 704 blocks.
 fn image() -> [u8; 22528] {
     let mut bytes = [0; 22528];
-    bytes[0] = 1;
-    bytes[1] = 2;
-    bytes[2] = 2;
-    bytes[3] = 10;
-    bytes[4] = 3;
+    bytes[..6].copy_from_slice(&[1, 2, 2, 10, 3, 0]);
     bytes[11] = 5;
-    let owner = owners();
     let mut k = 0;
-    for c in 0..1024 {
-        let i = owner[c];
-        if i < 768 && k < 768 {
+    for (c, owner) in owners().iter().enumerate() {
+        if let Some(i) = *owner
+            && k < 768
+        {
             bytes[32 + c / 8] |= 1 << (c % 8);
-            let at = 160 + 29 * k;
-            bytes[at] = 24;
-            let text = text_of(i);
-            for j in 0..24 {
-                bytes[at + 1 + j] = text[j];
-            }
-            bytes[at + 26] = 9;
-            bytes[at + 27] = (i / 256) as u8;
-            bytes[at + 28] = (i % 256) as u8;
+            let code = &mut bytes[160 + 29 * k..189 + 29 * k];
+            code[0] = 24;
+            code[1..25].copy_from_slice(&text_of(i));
+            code[26] = 9;
+            code[27..].copy_from_slice(&i.to_be_bytes());
             k += 1;
         }
     }
@@ -74,14 +62,7 @@ fn the_largest_image_is_read_and_written(rt: HostRuntime) {
     let bytes = image();
     let mut cells: [Option<Record<TextRow, Hours>>; 1024] = [None; 1024];
     let mut out = [0; 22528];
-    match copy_image::<TextKey, Hours, StoreFault>(&bytes, &mut cells, &mut out) {
-        Ok(count) => assert_eq!(rt; count, 768),
-        Err(fault) => {
-            assert_eq!(rt; fault.number(), 0);
-            assert_eq!(rt; fault.place(), 0);
-        }
-    }
-    for i in 0..22528 {
-        assert_eq!(rt; out[i], bytes[i]);
-    }
+    let answer = copy_image::<TextKey, Hours, StoreFault>(&bytes, &mut cells, &mut out);
+    assert_eq!(rt; answer, Ok(768));
+    assert!(rt; out == bytes);
 }

@@ -1,3 +1,5 @@
+ghost use Rattle.std.specs.Prelude.{◌<◌, ◌≤◌};
+
 use crate::copy_image;
 use image::fault::ImageFault;
 use image_reader::reader::read_image;
@@ -5,7 +7,6 @@ use image_store::load::read_store;
 use kinds::record::Record;
 use numbers::papers::Papers;
 use numbers::staff::StaffNumber;
-use std::test::Fail;
 use store::checked::CheckedStore;
 use store::fault::{BlockFault, StoreFault};
 use store::plain::PlainStore;
@@ -32,65 +33,50 @@ fn example() -> [u8; 64] {
 // Number and place of the refusal, if there is one.
 fn refusal(bytes: &[u8]) -> Option<(u8, usize)> {
     let mut cells: Cells = [None; 1024];
-    match read_image::<StaffNumber, Papers, StoreFault>(bytes, &mut cells) {
-        Ok(_) => None,
-        Err(fault) => Some((fault.number(), fault.place())),
-    }
+    read_image::<StaffNumber, Papers, StoreFault>(bytes, &mut cells)
+        .err()
+        .map(|fault| (fault.number(), fault.place()))
 }
 
 // The example with byte `i` changed.
-fn spoilt(i: usize, byte: u8) -> Option<(u8, usize)> {
+fn spoilt(i: usize, byte: u8) -> Option<(u8, usize)>
+    requires { i < 64 }
+{
     let mut bytes = example();
-    if i < 64 {
-        bytes[i] = byte;
-    }
+    bytes[i] = byte;
     refusal(&bytes)
 }
 
 // The first `n` bytes of the example.
-fn shortened(n: usize) -> Option<(u8, usize)> {
-    let bytes = example();
-    if n <= 64 { refusal(&bytes[0..n]) } else { None }
+fn shortened(n: usize) -> Option<(u8, usize)>
+    requires { n ≤ 64 }
+{
+    refusal(&example()[..n])
 }
 
 // A cell in plain numbers.
 fn plain(cell: Option<Record<u32, Papers>>) -> Option<(u32, u16)> {
-    match cell {
-        Some(found) => Some((found.key, found.value.bits())),
-        None => None,
-    }
+    cell.map(|found| (found.key, found.value.bits()))
 }
 
 #[test]
-fn the_example_is_read(rt: HostRuntime) -> Result<(), Fail> {
-    let bytes = example();
+fn the_example_is_read(rt: HostRuntime) {
     let mut cells: Cells = [None; 1024];
-    match read_image::<StaffNumber, Papers, StoreFault>(&bytes, &mut cells) {
-        Ok(found) => {
-            assert_eq!(rt; found.0, 0);
-            assert_eq!(rt; found.1, 2);
-        }
-        Err(_) => return Err(Fail::new("refused")),
-    }
+    let answer = read_image::<StaffNumber, Papers, StoreFault>(&example(), &mut cells);
+    assert_eq!(rt; answer, Ok((0, 2)));
     assert_eq!(rt; plain(cells[4]), Some((1, 3)));
     assert_eq!(rt; plain(cells[5]), Some((9, 4)));
     assert_eq!(rt; plain(cells[6]), None);
-    Ok(())
 }
 
 #[test]
-fn the_example_is_written(rt: HostRuntime) -> Result<(), Fail> {
+fn the_example_is_written(rt: HostRuntime) {
     let bytes = example();
     let mut cells: Cells = [None; 1024];
     let mut out = [7; 64];
-    match copy_image::<StaffNumber, Papers, StoreFault>(&bytes, &mut cells, &mut out) {
-        Ok(count) => assert_eq!(rt; count, 2),
-        Err(_) => return Err(Fail::new("refused")),
-    }
-    for i in 0..64 {
-        assert_eq!(rt; out[i], bytes[i]);
-    }
-    Ok(())
+    let answer = copy_image::<StaffNumber, Papers, StoreFault>(&bytes, &mut cells, &mut out);
+    assert_eq!(rt; answer, Ok(2));
+    assert_eq!(rt; out, bytes);
 }
 
 #[test]
@@ -129,11 +115,11 @@ fn layout_and_tail_faults(rt: HostRuntime) {
     assert_eq!(rt; spoilt(63, 1), Some((8, 63)));
 }
 
-// Number and place of the refusal of a checked store of two blocks, one byte of which is changed; and whether the work bytes end zero.
+// Number and place of the refusal of a checked store of two blocks, one byte of which is changed, where it has so many; and whether the work bytes end zero.
 fn checked_refusal(i: usize) -> (Option<(u8, usize)>, bool) {
     let mut bytes = [0; 68];
-    if i < 68 {
-        bytes[i] = 1;
+    if let Some(byte) = bytes.get_mut(i) {
+        *byte = 1;
     }
     let store = CheckedStore::new(&mut bytes, false);
     let mut cells: Cells = [None; 1024];
@@ -141,12 +127,9 @@ fn checked_refusal(i: usize) -> (Option<(u8, usize)>, bool) {
     if 32 * store.count() > work.len() {
         return (None, false);
     }
-    let answer = match read_store::<CheckedStore<'_>, StaffNumber, Papers>(
-        &store, &mut work, &mut cells,
-    ) {
-        Ok(_) => None,
-        Err(fault) => Some((fault.number(), fault.place())),
-    };
+    let answer = read_store::<CheckedStore<'_>, StaffNumber, Papers>(&store, &mut work, &mut cells)
+        .err()
+        .map(|fault| (fault.number(), fault.place()));
     (answer, work[0] == 0 && work[33] == 0 && work[69] == 0)
 }
 

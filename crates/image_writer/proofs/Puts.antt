@@ -1,5 +1,5 @@
 -- one write after another
-use Rattle.std.proofs.Common.{◌≡◌, ℕ, is_some, mul_assoc, zero, suc, true, false, ◌%◌, bit_or,  ◌+◌, ◌-◌, ◌*◌, ◌^◌, ◌<◌, ◌≤◌, Bool, List, [], ◌∷◌, ◌++◌, length, get_or, take, drop, replicate, Some, None, Ok, Err, Option, Result, sym, refl, ap, ◌∙◌, ap₂, append_assoc, arith, length-append, length-take}
+use Rattle.std.proofs.Common.{◌≡◌, ℕ, is_some, mul_assoc, zero, suc, true, false, ◌%◌, bit_or, ◌+◌, ◌-◌, ◌*◌, ◌^◌, ◌<◌, ◌≤◌, Bool, List, [], ◌∷◌, ◌++◌, length, get_or, take, drop, replicate, Some, None, Ok, Err, Option, Result, sym, refl, ap, ◌∙◌, ap₂, append_assoc, arith, length-append, length-take}
 use native.Mathlib.Nat.{pow-succ', pow-le-pow_right}
 use lib.ListN.{length-replicate}
 use borrow.Rule.Slice.PartMut.{put_mid}

@@ -1,4 +1,4 @@
-use Rattle.std.proofs.Common.{◌≡◌, Option, ℕ, sym, ap, ◌∙◌, refl, rules, tests}
+use Rattle.std.proofs.Common.{◌≡◌, sym, ap, ◌∙◌, refl, rules, tests}
 use Rattle.std.specs.Option.{option_map}
 use Rattle.std.specs.List.{find, range_with_len}
 use Rattle.std.proofs.lemmas.Iterator.{YieldsList-from_range}

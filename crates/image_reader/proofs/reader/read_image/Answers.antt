@@ -1,4 +1,4 @@
-use Rattle.std.proofs.Common.{◌≡◌, ℕ, ◌<◌, true, false, length, get_or, replicate, None, sym, ap, ◌∙◌, subst, arith, rules}
+use Rattle.std.proofs.Common.{◌≡◌, ℕ, ◌<◌, true, false, length, get_or, replicate, None, ◌∙◌, subst, arith, rules}
 use Rattle.std.specs.Result.{is_err}
 use Rattle.maps.specs.Maps.{KindsLaws, kinds_of}
 use Rattle.image.specs.Opened.{opened}

@@ -1,4 +1,4 @@
-use Rattle.std.proofs.Common.{◌≡◌, length, take}
+use Rattle.std.proofs.Common.{◌≡◌, take}
 use Rattle.image.specs.Bits.{bit_map}
 use Rattle.image.specs.Image.{held}
 use Rattle.image_writer.proofs.bits.put_bits.Given as goal

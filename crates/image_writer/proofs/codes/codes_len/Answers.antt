@@ -1,5 +1,5 @@
 use Rattle.std.proofs.Common.{◌≡◌, ◌<◌, length, get_or, take, None, sym, refl, ap, ◌∙◌, arith, length-append}
-use Rattle.std.proofs.lemmas.List.{take_all, length-map}
+use Rattle.std.proofs.lemmas.List.{length-map}
 use Rattle.maps.specs.Maps.{KindsLaws, kinds_of}
 use Rattle.image.specs.Image.{code_of, codes}
 use Rattle.image.specs.Rows.{keyed, keyed_cells}

@@ -1,11 +1,11 @@
 use Rattle.std.proofs.Common.{◌≡◌, ◌+◌, ◌<◌, ◌≤◌, length, get_or, take, Some, None, sym, refl, ap, ◌∙◌, arith, length-append}
-use Rattle.std.proofs.lemmas.List.{take_all, length-map}
+use Rattle.std.proofs.lemmas.List.{length-map}
 use Rattle.kinds.specs.Records.{written}
 use Rattle.maps.specs.Maps.{kinds_of}
 use Rattle.image.specs.Image.{code_of, codes}
 use Rattle.image.specs.Rows.{keyed, keyed_cells}
 use Rattle.image.proofs.Rows.{at_keyed}
-use Rattle.image_writer.proofs.Puts.{written_none, written_on, codes_none, codes_some, codes_le, read_is}
+use Rattle.image_writer.proofs.Puts.{written_on, codes_none, codes_some, codes_le, read_is}
 use Rattle.image_writer.proofs.codes.put_codes.Goals.{in-Some, in_default}
 use Rattle.image_writer.proofs.codes.put_codes.Goals as goal
 
