@@ -7,12 +7,7 @@ pub(crate) fn copy_filled<T: Copy>(cells: &[Option<T>], output: &mut [Option<T>]
     requires { length (in_cells cells.now) ≤ length output.old }
     ensures { output.new ≡ over_first (map Some (in_cells cells.now)) output.old }
 {
-    let mut place = 0;
-    for i in 0..cells.len() {
-        let cell = cells[i];
-        if cell.is_some() {
-            output[place] = cell;
-            place += 1;
-        }
+    for (place, record) in cells.iter().flatten().enumerate() {
+        output[place] = Some(*record);
     }
 }

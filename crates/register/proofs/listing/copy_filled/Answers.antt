@@ -1,40 +1,42 @@
-use Rattle.std.proofs.Common.{◌<◌, length, sym, arith, rules}
-use Rattle.layout.proofs.Tests.{is_some_true, is_some_false}
-use Rattle.register.proofs.Copies.{copied_within, copied_skip, copied_more, copied_all}
+use Rattle.std.proofs.Common.{◌≡◌, ◌<◌, length, get_or, Some, set, sym, ap, ap₂, ◌∙◌, arith, rules}
+use borrow.Author.Rules.{scaled_Fits}
+use Rattle.std.proofs.lemmas.Iterator.{YieldsList-from_slice}
+use Rattle.std.proofs.lemmas.Iterator.Consumers.{YieldsList-at}
+use Rattle.std.proofs.lemmas.List.{length_push}
+use Rattle.model.specs.Steps.{in_cells}
+use Rattle.register.proofs.Copies.{records_of, turn, all_yielded, copied, copied_more, copied_all}
 use Rattle.register.proofs.listing.copy_filled.Goals as goal
-use Rattle.register.proofs.listing.copy_filled.Goals.{then-is_some, else-is_some}
 
--- where the cell holds a record, its place is within the output
-within : (g : Rattle.register.proofs.listing.copy_filled.Given.Over) (c : goal.Then-is_some g) → c.loop-i.place < length c.args.output.now
-within g c =
-    let s = is_some_true c.index-cells-i.result (sym c.if-is_some.ensures) in
-    copied_within c.args.cells.now c.args.output.now c.loop-i.i c.loop-i.place c.loop-i.output c.index-cells-i.result s.0
-    c.loop-i-test.true c.index-cells-i.is s.1 c.requires c.loop-i.invariant
+-- this turn's record, and that its place is the next one
+this_turn : (g : Rattle.register.proofs.listing.copy_filled.Given.Over) (c : goal.After-output-1 g)
+    → (length c.loop-place.yielded < length (in_cells c.args.cells.now)) × (c.in-Some.place ≡ length c.loop-place.yielded)
+    × (c.in-Some.record.now ≡ get_or (in_cells c.args.cells.now) (length c.loop-place.yielded) c.in-Some.record.now)
+this_turn g c =
+    let road = YieldsList-at c.into_iter-place-iterator.ensures.into_iter_gives (records_of c.args.cells.now (YieldsList-from_slice c.args.cells.now (cc)) (cc) (cc) (cc) (cc)) in
+    turn (in_cells c.args.cells.now) road c.loop-place.yielded c.loop-place.place-iterator c.loop-place.yielded_by c.next.result c.next.new.self
+    (c.in-Some.place, c.in-Some.record) c.in-Some.is c.next.ensures.steps
 
 pub offset_bounds-output-place : goal.offset_bounds-output-place
-offset_bounds-output-place g c = let lt = within g c in search rules
+offset_bounds-output-place g c =
+    let t = this_turn g c in
+    let lt : c.in-Some.place < length c.args.output.now = omega (arith, t.0, t.1, c.requires) in
+    scaled_Fits c.in-Some.place (length c.args.output.now) _ lt (search rules)
 
 pub bounds-output-place : goal.bounds-output-place
-bounds-output-place g c = omega (arith, within g c)
+bounds-output-place g c = let t = this_turn g c in omega (arith, t.0, t.1, c.requires, c.loop-place.auto.output)
 
-pub overflow_add-place : goal.overflow_add-place
-overflow_add-place g c = let lt = within g c in search rules
-
-pub loop-i-preserved : goal.loop-i-preserved
-loop-i-preserved g c =
-    let cells = c.args.cells.now in
-    let old = c.args.output.now in
-    let cell = c.index-cells-i.result in
-    elim c.if-is_some.branch [
-      | then-is_some w ↦
-          (let s = is_some_true cell (sym w.if-is_some.ensures) in
-          let room = copied_within cells old c.loop-i.i c.loop-i.place c.loop-i.output cell s.0 c.loop-i-test.true c.index-cells-i.is s.1 c.requires c.loop-i.invariant in
-          simp (w.place-is, w.output-is)
-          (copied_more cells old c.loop-i.i c.loop-i.place c.loop-i.output c.loop-i-test.true cell c.index-cells-i.is c.loop-i.invariant s.0 s.1 room))
-      | else-is_some w ↦
-          simp (w.place-is, w.output-is)
-          (copied_skip cells old c.loop-i.i c.loop-i.place c.loop-i.output c.loop-i-test.true cell c.index-cells-i.is c.loop-i.invariant (is_some_false cell (sym w.if-is_some.ensures)))
-    ]
+pub loop-place-preserved : goal.loop-place-preserved
+loop-place-preserved g c =
+    let t = this_turn g c in
+    let rs = in_cells c.args.cells.now in
+    let n = length c.loop-place.yielded in
+    ap₂ (λ o i. set o i (Some c.in-Some.record.now)) c.loop-place.invariant t.1
+    ∙ copied_more rs c.args.output.now n c.in-Some.record.now t.0 c.requires t.2
+    ∙ ap (copied rs c.args.output.now) (sym (length_push c.loop-place.yielded (c.in-Some.place, c.in-Some.record)))
 
 pub returns : goal.returns
-returns g c = copied_all c.args.cells.now c.args.output.now c.loop-i.i c.loop-i.place c.loop-i.output c.loop-i-test.false c.loop-i.invariant
+returns g c =
+    let rs = in_cells c.args.cells.now in
+    let road = YieldsList-at c.into_iter-place-iterator.ensures.into_iter_gives (records_of c.args.cells.now (YieldsList-from_slice c.args.cells.now (cc)) (cc) (cc) (cc) (cc)) in
+    c.loop-place.invariant ∙ copied_all rs c.args.output.now (length c.loop-place.yielded)
+    (all_yielded rs road c.loop-place.yielded c.loop-place.place-iterator c.loop-place.yielded_by c.next.result c.next.new.self c.in-None.is c.next.ensures.steps)

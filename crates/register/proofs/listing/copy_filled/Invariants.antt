@@ -1,5 +1,7 @@
-use Rattle.register.proofs.Copies.{Copied}
+use Rattle.std.proofs.Common.{◌≡◌, length}
+use Rattle.model.specs.Steps.{in_cells}
+use Rattle.register.proofs.Copies.{copied}
 use Rattle.register.proofs.listing.copy_filled.Given as goal
 
-abbrev pub invariant-loop-i : goal.invariant-loop-i
-invariant-loop-i g l = Copied l.cells l.initial.output l.i l.place l.output
+abbrev pub invariant-loop-place : goal.invariant-loop-place
+invariant-loop-place g l = l.output ≡ copied (in_cells l.cells) l.initial.output (length l.yielded)

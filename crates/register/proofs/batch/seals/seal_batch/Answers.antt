@@ -18,4 +18,4 @@ returns g c =
     let w = c.save_image.ensures in
     sealed_step g.K.Key.kind g.V.Value.kind g.S.Fault.BlockFault d c.args.batch c.args.cells.now c.args.work.now c.in_default.ensures
     c.save_image.new.store c.close.result c.fill.new.self c.save_image.new.work c.close.ensures
-    w.count w.protect w.shows w.keeps (c.fill.ensures.after (none_cloned _ (λ a e. e))) w.work
+    w.rewritten.count w.rewritten.protect w.shows w.rewritten.keeps (c.fill.ensures.after (none_cloned _ (λ a e. e))) w.work
