@@ -1,6 +1,8 @@
 // The lines that the program reads.
 ghost use Rattle.std.specs.Prelude.{◌≡◌, ℕ, ◌<◌, ◌≤◌, [], length, MatchOption};
 ghost use Rattle.lines.specs.Input.{first_place, cut, number_in, key_in, put_in, line_in, or_bad};
+ghost use Rattle.lines.specs.Lines.{GivesLine, unread};
+ghost use Rattle.std.specs.Iterator.{at_most};
 ghost use Rattle.lines.specs.Laws.{Cuts, Tells, ReadsBack};
 
 // A command, with the key and the value as they stand in the line, or the seal of all before it.
@@ -34,6 +36,34 @@ pub fn split_line(bytes: &[u8]) -> Option<(&[u8], &[u8])>
     match position(bytes, b'\n') {
         Some(i) => Some((&bytes[..i], &bytes[i + 1..])),
         None => Some((bytes, &[])),
+    }
+}
+
+// The lines of a text, from the first on, each as `split_line` cuts it off.
+#[derive(Drop)]
+pub struct Lines<'a> {
+    left: &'a [u8],
+}
+
+impl<'a> Lines<'a> {
+    pub fn new(text: &'a [u8]) -> Lines<'a>
+        ensures { unread result ≡ text.now }
+    {
+        Lines { left: text }
+    }
+}
+
+impl<'a> Iterator for Lines<'a> {
+    type Item = &'a [u8];
+
+    ghost next_gives = { GivesLine };
+
+    ghost remaining = { λ s. at_most (length (unread s)) };
+
+    fn next(&mut self) -> Option<&'a [u8]> {
+        let (line, rest) = split_line(self.left)?;
+        self.left = rest;
+        Some(line)
     }
 }
 
