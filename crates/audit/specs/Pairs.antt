@@ -1,5 +1,6 @@
 -- What an audit of two stores answers and leaves, by the audits of each.
 use Rattle.std.specs.Prelude.{◌≡◌, ℕ, Bool, true, ◌↔◌, List, length, None, Ok, Err, Decides, Option, Result}
+use Rattle.store.specs.declared.fault.BlockFault.{Ghosts as FaultWords}
 use Rattle.contents.specs.Faults.{told}
 use Rattle.contents.specs.Finds.{Reading}
 use Rattle.kinds.specs.declared.record.Record.{Record}
@@ -20,14 +21,14 @@ pub record SideFault : Type 0 where
 abbrev pub at_side : ℕ → Fault → SideFault
 at_side n f = record { side = n; fault = f }
 
--- number and block are those of the first store's fault, then those of the second's
-abbrev pub told_side : {F G : Type 0} → (F → ℕ) → (F → ℕ) → (G → ℕ) → (G → ℕ) → AuditFault F G → SideFault
-told_side number block other_number other_block (First f) = at_side 1 (told number block f)
-told_side number block other_number other_block (Second f) = at_side 2 (told other_number other_block f)
+-- by what is known of the first store's fault, then of the second's
+abbrev pub told_side : {F G : Type 0} → FaultWords F → FaultWords G → AuditFault F G → SideFault
+told_side w other (First f) = at_side 1 (told w f)
+told_side w other (Second f) = at_side 2 (told other f)
 
-abbrev pub answered_two : {F G : Type 0} → (F → ℕ) → (F → ℕ) → (G → ℕ) → (G → ℕ) → Result Bool (AuditFault F G) → Result Bool SideFault
-answered_two number block other_number other_block (Ok b) = Ok b
-answered_two number block other_number other_block (Err f) = Err (told_side number block other_number other_block f)
+abbrev pub answered_two : {F G : Type 0} → FaultWords F → FaultWords G → Result Bool (AuditFault F G) → Result Bool SideFault
+answered_two w other (Ok b) = Ok b
+answered_two w other (Err f) = Err (told_side w other f)
 
 -- an answer, and what the cells of each side and the work bytes hold behind it
 pub record Comparison (Row V : Type 0) : Type 0 where
@@ -36,9 +37,9 @@ pub record Comparison (Row V : Type 0) : Type 0 where
   pub second : List (Option (Record Row V))
   pub work : List ℕ
 
-abbrev pub comparison : {F G Row V : Type 0} → (F → ℕ) → (F → ℕ) → (G → ℕ) → (G → ℕ) → Result Bool (AuditFault F G) → List (Option (Record Row V)) → List (Option (Record Row V)) → List ℕ → Comparison Row V
-comparison number block other_number other_block r first second work =
-    record { answer = answered_two number block other_number other_block r; first = first; second = second; work = work }
+abbrev pub comparison : {F G Row V : Type 0} → FaultWords F → FaultWords G → Result Bool (AuditFault F G) → List (Option (Record Row V)) → List (Option (Record Row V)) → List ℕ → Comparison Row V
+comparison w other r first second work =
+    record { answer = answered_two w other r; first = first; second = second; work = work }
 
 -- yes exactly when the maps of the two images are equal; the seeds may differ
 abbrev pub SameMaps : {K Row V : Type 0} → Setup K Row V → Store → Store → Bool → Type 0

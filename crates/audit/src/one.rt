@@ -5,7 +5,6 @@ ghost use Rattle.contents.specs.Setups.{setup, meaning};
 
 use contents::fault::RegisterFault;
 use contents::find::find_contents;
-use image::cell::clear;
 use kinds::key::Key;
 use kinds::record::Record;
 use kinds::value::Value;
@@ -17,12 +16,11 @@ pub(crate) fn examine<S: Store, K: Key, V: Value>(
     cells: &mut [Option<Record<K::Row, V>>],
     work: &mut [u8],
 ) -> Result<(usize, u32), RegisterFault<S::Fault>>
-    ensures { Examines (setup K.Key.kind V.Value.kind) (meaning S.Store.count S.Store.protected S.Store.shown S.Store.kept store.now) cells.old work.old (reading S.Fault.BlockFault.number S.Fault.BlockFault.block result cells.new work.new) }
+    ensures { Examines (setup K.Key.kind V.Value.kind) (meaning S.Store store.now) cells.old work.old (reading S.Fault.BlockFault result cells.new work.new) }
 {
-    match find_contents::<S, K, V>(store, cells, work) {
-        Ok((seed, count)) => Ok((count, seed)),
-        Err(fault) => Err(fault),
-    }
+    let (seed, count) = find_contents::<S, K, V>(store, cells, work)?;
+    // a rule of the project: an audit answers the count first
+    Ok((count, seed))
 }
 
 // The count and the seed of the image that the store shows, or begin's refusals. The store is only read; the cells end empty and the work
@@ -32,13 +30,9 @@ pub fn audit<S: Store, K: Key, V: Value>(
     cells: &mut [Option<Record<K::Row, V>>],
     work: &mut [u8],
 ) -> Result<(usize, u32), RegisterFault<S::Fault>>
-    ensures { Audits (setup K.Key.kind V.Value.kind) (meaning S.Store.count S.Store.protected S.Store.shown S.Store.kept store.now) cells.old work.old (reading S.Fault.BlockFault.number S.Fault.BlockFault.block result cells.new work.new) }
+    ensures { Audits (setup K.Key.kind V.Value.kind) (meaning S.Store store.now) cells.old work.old (reading S.Fault.BlockFault result cells.new work.new) }
 {
-    match examine::<S, K, V>(store, cells, work) {
-        Ok(found) => {
-            clear(cells);
-            Ok(found)
-        }
-        Err(fault) => Err(fault),
-    }
+    let found = examine::<S, K, V>(store, cells, work)?;
+    cells.fill(None);
+    Ok(found)
 }

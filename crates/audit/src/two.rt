@@ -5,7 +5,6 @@ ghost use Rattle.contents.specs.Setups.{setup, meaning};
 use crate::fault::AuditFault;
 use crate::one::examine;
 use compare::same_map;
-use image::cell::clear;
 use kinds::key::Key;
 use kinds::record::Record;
 use kinds::value::Value;
@@ -20,29 +19,31 @@ pub fn audit_two<S: Store, T: Store, K: Key, V: Value>(
     second_cells: &mut [Option<Record<K::Row, V>>],
     work: &mut [u8],
 ) -> Result<bool, AuditFault<S::Fault, T::Fault>>
-    ensures audits { AuditsTwo (setup K.Key.kind V.Value.kind) (meaning S.Store.count S.Store.protected S.Store.shown S.Store.kept first.now) (meaning T.Store.count T.Store.protected T.Store.shown T.Store.kept second.now) first_cells.old second_cells.old work.old (comparison S.Fault.BlockFault.number S.Fault.BlockFault.block T.Fault.BlockFault.number T.Fault.BlockFault.block result first_cells.new second_cells.new work.new) }
-    ensures yes { YesExactly (setup K.Key.kind V.Value.kind) (meaning S.Store.count S.Store.protected S.Store.shown S.Store.kept first.now) (meaning T.Store.count T.Store.protected T.Store.shown T.Store.kept second.now) first_cells.old second_cells.old work.old (answered_two S.Fault.BlockFault.number S.Fault.BlockFault.block T.Fault.BlockFault.number T.Fault.BlockFault.block result) }
-    ensures equal { EqualImages (setup K.Key.kind V.Value.kind) (meaning S.Store.count S.Store.protected S.Store.shown S.Store.kept first.now) (meaning T.Store.count T.Store.protected T.Store.shown T.Store.kept second.now) first_cells.old second_cells.old work.old (answered_two S.Fault.BlockFault.number S.Fault.BlockFault.block T.Fault.BlockFault.number T.Fault.BlockFault.block result) }
+    ensures audits { AuditsTwo (setup K.Key.kind V.Value.kind) (meaning S.Store first.now) (meaning T.Store second.now) first_cells.old second_cells.old work.old (comparison S.Fault.BlockFault T.Fault.BlockFault result first_cells.new second_cells.new work.new) }
+    ensures yes { YesExactly (setup K.Key.kind V.Value.kind) (meaning S.Store first.now) (meaning T.Store second.now) first_cells.old second_cells.old work.old (answered_two S.Fault.BlockFault T.Fault.BlockFault result) }
+    ensures equal { EqualImages (setup K.Key.kind V.Value.kind) (meaning S.Store first.now) (meaning T.Store second.now) first_cells.old second_cells.old work.old (answered_two S.Fault.BlockFault T.Fault.BlockFault result) }
 {
-    match examine::<S, K, V>(first, first_cells, work) {
-        Err(fault) => Err(AuditFault::First(fault)),
-        Ok((count, _)) => match examine::<T, K, V>(second, second_cells, work) {
-            Err(fault) => {
-                clear(first_cells);
-                Err(AuditFault::Second(fault))
-            }
-            Ok((other_count, other_seed)) => {
-                let same = same_map::<K, V>(
-                    first_cells,
-                    count,
-                    second_cells,
-                    other_seed,
-                    other_count,
-                );
-                clear(first_cells);
-                clear(second_cells);
-                Ok(same)
-            }
-        },
+    // a match, since the borrow checker takes no `map_err` to a type with a parameter more, as `First` makes it
+    let (count, _) = match examine::<S, K, V>(first, first_cells, work) {
+        Ok(found) => found,
+        Err(fault) => return Err(AuditFault::First(fault)),
+    };
+    match examine::<T, K, V>(second, second_cells, work) {
+        Ok((other_count, other_seed)) => {
+            let same = same_map::<K, V>(
+                first_cells,
+                count,
+                second_cells,
+                other_seed,
+                other_count,
+            );
+            first_cells.fill(None);
+            second_cells.fill(None);
+            Ok(same)
+        }
+        Err(fault) => {
+            first_cells.fill(None);
+            Err(AuditFault::Second(fault))
+        }
     }
 }

@@ -17,7 +17,8 @@ use Rattle.model.specs.Worlds.{Store}
 use Rattle.model.proofs.Refusals.{not_refused}
 use Rattle.store.specs.Answers.{Answer, told}
 use Rattle.store.specs.Places.{Place}
-use Rattle.contents.specs.Faults.{told as told_by, told_if}
+use Rattle.store.specs.declared.fault.BlockFault.{Ghosts as FaultWords}
+use Rattle.contents.specs.Faults.{told as told_by}
 use Rattle.contents.specs.Finds.{Finds, reading}
 use Rattle.contents.specs.Readings.{FoundIn}
 use Rattle.contents.specs.Setups.{image_bytes, setup}
@@ -76,12 +77,12 @@ found_by : {F K Row V : Type 0} (x : Kinds K Row V) (number block : F → ℕ) (
 found_by x number block n f cells (Answer.given h) e q = let z : ◌≡◌ {A = ℕ} 0 1 = cc in absurd (omega arith)
 found_by x number block n f cells (Answer.refused m p) e q = (ap (refusal (Answer.refused m p)) (sym e), q)
 
-pub refused_found : {F K Row V : Type 0} (x : Kinds K Row V) (number block : F → ℕ) (shown : List Place) (n : ℕ) (f : ImageFault F) (r : Result (ℕ × ℕ) (RegisterFault F)) (cells : List (Option (Record Row V)))
+pub refused_found : {F K Row V : Type 0} (x : Kinds K Row V) (w : FaultWords F) (shown : List Place) (n : ℕ) (f : ImageFault F) (r : Result (ℕ × ℕ) (RegisterFault F)) (cells : List (Option (Record Row V)))
     → r ≡ Err (Image f)
-    → Answer.refused (fault_number number f) (fault_place block f) ≡ seed_and_count_told x (store_opened x number block shown) → cells ≡ cells_left x n (store_opened x number block shown)
-    → FoundIn x number block shown n r cells
-refused_found x number block shown n f r cells e answer left =
-    subst (λ r. FoundIn x number block shown n r cells) (sym e) (found_by x number block n f cells (store_opened x number block shown) answer left)
+    → Answer.refused (fault_number w.number f) (fault_place w.block f) ≡ seed_and_count_told x (store_opened x w.number w.block shown) → cells ≡ cells_left x n (store_opened x w.number w.block shown)
+    → FoundIn x w shown n r cells
+refused_found x w shown n f r cells e answer left =
+    subst (λ r. FoundIn x w shown n r cells) (sym e) (found_by x w.number w.block n f cells (store_opened x w.number w.block shown) answer left)
 
 -- an answer's refusal
 abbrev fault_told : {A : Type 0} → Answer A → Option Fault
@@ -127,12 +128,12 @@ module _ {K Row V : Type 0} (k : KeyKind K Row) (v : ValueKind V) where
         image = sym (blocks_bytes shown r.1) ∙ ap (λ (n : ℕ). Blocks.blocks_of n (bytes_of shown)) size ∙ ap (Blocks.blocks_of count) is;
       }
 
-module _ {F K Row V : Type 0} (k : KeyKind K Row) (v : ValueKind V) (number block : F → ℕ) (s : Store)
+module _ {F K Row V : Type 0} (k : KeyKind K Row) (v : ValueKind V) (w : FaultWords F) (s : Store)
     (cells cells' : List (Option (Record Row V))) (work work' : List ℕ) where
   -- a reading of a store that is read
   pub finds : None ≡ begin_refusal s.count (length cells) (length work) → work' ≡ replicate (length work) 0 → length s.shown ≡ s.count
-      → (r : Result (ℕ × ℕ) (RegisterFault F)) → FoundIn (kinds_of k v) number block s.shown (length cells) r cells'
-      → Finds (setup k v) s cells work (reading number block r cells' work')
+      → (r : Result (ℕ × ℕ) (RegisterFault F)) → FoundIn (kinds_of k v) w s.shown (length cells) r cells'
+      → Finds (setup k v) s cells work (reading w r cells' work')
   finds free cleared size (Ok p) found =
       let n = found.2.2 in
       let laid = found.2.1.is in
@@ -144,11 +145,12 @@ module _ {F K Row V : Type 0} (k : KeyKind K Row) (v : ValueKind V) (number bloc
   finds free cleared size (Err f) found =
       let empty = found.1 in
       not_refused _ _ free (inr (
-        told_by number block f,
-        same_wrong k v number block s.shown ∙ ap fault_told found.0,
-        λ i. record { answer = Err (told_by number block f); cells = empty i; work = cleared i },
+        told_by w f,
+        same_wrong k v w.number w.block s.shown ∙ ap fault_told found.0,
+        λ i. record { answer = Err (told_by w f); cells = empty i; work = cleared i },
       ))
 
--- a refusal that was looked for and not found
-pub none_told : {F : Type 0} (number block : F → ℕ) (r : Option (RegisterFault F)) (q : Option Fault) → r ≡ None → told_if number block r ≡ q → None ≡ q
-none_told number block r q e h = sym (ap (told_if number block) e) ∙ h
+-- what is cloned from an empty cell is one
+pub none_cloned : {A : Type 0} (P : Option A → Type 0) → ((a : A) → P (Some a) → ⊥) → (cell : Option A) → P cell → cell ≡ None
+none_cloned P never None p = refl
+none_cloned P never (Some a) p = absurd (never a p)

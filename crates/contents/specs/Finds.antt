@@ -7,6 +7,7 @@ use Rattle.model.specs.Refusals.{begin_refusal}
 use Rattle.model.specs.Setups.{Setup, Shows}
 use Rattle.model.specs.Steps.{Unless, empty}
 use Rattle.model.specs.Worlds.{Store}
+use Rattle.store.specs.declared.fault.BlockFault.{Ghosts as FaultWords}
 use Rattle.contents.specs.Faults.{told}
 use Rattle.contents.specs.declared.fault.RegisterFault.{RegisterFault}
 
@@ -17,12 +18,12 @@ pub record Reading (A Row V : Type 0) : Type 0 where
   pub work : List ℕ
 
 -- a result, its fault by number and place
-abbrev pub answered : {A F : Type 0} → (F → ℕ) → (F → ℕ) → Result A (RegisterFault F) → Result A Fault
-answered number block (Ok a) = Ok a
-answered number block (Err f) = Err (told number block f)
+abbrev pub answered : {A F : Type 0} → FaultWords F → Result A (RegisterFault F) → Result A Fault
+answered w (Ok a) = Ok a
+answered w (Err f) = Err (told w f)
 
-abbrev pub reading : {A F Row V : Type 0} → (F → ℕ) → (F → ℕ) → Result A (RegisterFault F) → List (Option (Record Row V)) → List ℕ → Reading A Row V
-reading number block r cells work = record { answer = answered number block r; cells = cells; work = work }
+abbrev pub reading : {A F Row V : Type 0} → FaultWords F → Result A (RegisterFault F) → List (Option (Record Row V)) → List ℕ → Reading A Row V
+reading w r cells work = record { answer = answered w r; cells = cells; work = work }
 
 -- SIZE or LENT: everything as it was
 abbrev pub not_tried : {A Row V : Type 0} → List (Option (Record Row V)) → List ℕ → Fault → Reading A Row V

@@ -1,5 +1,4 @@
 -- The image of two kinds, in the words of the plain machine, and a store's meaning as one value.
-use Rattle.std.specs.Prelude.{ℕ, Bool, List}
 use Rattle.image.specs.Faults.{fault_number, fault_place}
 use Rattle.image.specs.Image.{image, image_length}
 use Rattle.image.specs.Opened.{opened}
@@ -8,8 +7,9 @@ use Rattle.kinds.specs.Kinds.{KeyKind, ValueKind}
 use Rattle.maps.specs.Maps.{Kinds, kinds_of}
 use Rattle.model.specs.Blocks.{Bytes, setup_of}
 use Rattle.model.specs.Faults.{fault_at}
-use Rattle.model.specs.Setups.{Place, Setup}
+use Rattle.model.specs.Setups.{Setup}
 use Rattle.model.specs.Worlds.{Store}
+use Rattle.store.specs.declared.store.Store.{Ghosts as StoreWords}
 
 -- the image in bytes; a fault in bytes carries none of a store
 abbrev pub image_bytes : {K Row V : Type 0} → Kinds K Row V → Bytes K V (ImageFault ⊥)
@@ -24,5 +24,5 @@ image_bytes x = record {
 abbrev pub setup : {K Row V : Type 0} → KeyKind K Row → ValueKind V → Setup K Row V
 setup k v = setup_of (kinds_of k v) (image_bytes (kinds_of k v))
 
-abbrev pub meaning : {S : Type 0} → (S → ℕ) → (S → Bool) → (S → List Place) → (S → List Place) → S → Store
-meaning count protected shown kept s = record { count = count s; protected = protected s; shown = shown s; kept = kept s }
+abbrev pub meaning : {S F : Type 0} → StoreWords S F → S → Store
+meaning w s = record { count = w.count s; protected = w.protected s; shown = w.shown s; kept = w.kept s }

@@ -48,7 +48,7 @@ impl<F: BlockFault> From<SheetFault> for RegisterFault<F> {
 
 impl<F: BlockFault> RegisterFault<F> {
     pub fn number(&self) -> u8
-        ensures { result ≡ (told F.BlockFault.number F.BlockFault.block self.now).number }
+        ensures { result ≡ (told F.BlockFault self.now).number }
     {
         match self {
             RegisterFault::Size => 1,
@@ -62,7 +62,7 @@ impl<F: BlockFault> RegisterFault<F> {
     }
 
     pub fn place(&self) -> usize
-        ensures { result ≡ (told F.BlockFault.number F.BlockFault.block self.now).place }
+        ensures { result ≡ (told F.BlockFault self.now).place }
     {
         match self {
             RegisterFault::Image(inner) => inner.place(),

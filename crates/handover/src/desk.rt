@@ -12,7 +12,7 @@ use register::batch::ends::abandon;
 use register::batch::enters::{enter, list};
 use register::batch::opens::{begin, start};
 use register::batch::seals::seal;
-use register::batch::{Closed, Open, Opening, Sealing, Token};
+use register::batch::{Closed, Open, Token};
 use register::fault::RegisterFault;
 use std::alloc::{AllocError, Global};
 use store::fault::BlockFault;
@@ -75,10 +75,8 @@ impl Desk {
         &mut self,
         closed: Closed<S>,
     ) -> Result<Batch<S>, (Closed<S>, RegisterFault<S::Fault>)> {
-        match start::<S, StaffNumber, Papers>(closed, SEED, &mut self.cells) {
-            Opening::Opened(open, token) => Ok(Batch { open, token }),
-            Opening::Refused(closed, fault) => Err((closed, fault)),
-        }
+        let (open, token) = start::<S, StaffNumber, Papers>(closed, SEED, &mut self.cells)?;
+        Ok(Batch { open, token })
     }
 
     // Answers a sheet. Since only the register writes the cells, none is refused.
@@ -106,8 +104,8 @@ impl Desk {
             Err(fault) => return (Ok(Batch { open, token }), Reply::Refused(fault.number())),
         };
         match seal::<S, StaffNumber, Papers>(open, token, &mut self.cells, &mut self.work) {
-            Sealing::Sealed(closed) => self.begin(closed, Reply::Sealed(count)),
-            Sealing::Refused(open, token, fault) => (
+            Ok(closed) => self.begin(closed, Reply::Sealed(count)),
+            Err((open, token, fault)) => (
                 Ok(Batch { open, token }),
                 Reply::Refused(fault.number()),
             ),
@@ -121,8 +119,8 @@ impl Desk {
         reply: Reply,
     ) -> (Result<Batch<S>, Closed<S>>, Reply) {
         match begin::<S, StaffNumber, Papers>(closed, &mut self.cells, &mut self.work) {
-            Opening::Opened(open, token) => (Ok(Batch { open, token }), reply),
-            Opening::Refused(closed, fault) => (Err(closed), Reply::Refused(fault.number())),
+            Ok((open, token)) => (Ok(Batch { open, token }), reply),
+            Err((closed, fault)) => (Err(closed), Reply::Refused(fault.number())),
         }
     }
 

@@ -2,6 +2,7 @@
 use Rattle.std.proofs.Common.{◌≡◌, ℕ, zero, suc, ◌+◌, ◌*◌, ◌<◌, ◌≤◌, Bool, false, cond, List, [], ◌∷◌, ◌++◌, length, get_or, take, drop, set, Some, None, sym, refl, ap, ◌∙◌, ap₂, add-one, arith}
 use Rattle.std.proofs.lemmas.List.{set_at, drop_more, drop_all, drop-drop, append_assoc, append-nil}
 use Rattle.std.proofs.lemmas.Bool.{lt-ltb}
+use Rattle.std.specs.Simd.{first_chunks}
 use Rattle.model.specs.Blocks.{blocks_of}
 use Rattle.model.specs.Setups.{Place}
 use Rattle.model.proofs.Blocks.{length_blocks}
@@ -18,8 +19,13 @@ one_more_block (suc i) bs =
     ap (λ x. Some (take 32 bs) ∷ x) (one_more_block i (drop 32 bs))
     ∙ ap (λ x. Some (take 32 bs) ∷ (blocks_of i (drop 32 bs) ++ Some (take 32 x) ∷ [])) (drop-drop (32 * i) 32 bs ∙ ap (λ k. drop k bs) n)
 
-pub none_written : (shown : List Place) (bs : List ℕ) → shown ≡ partly_written shown bs 0
-none_written shown bs = refl
+-- the chunks of the bytes are their blocks
+pub chunk_is : (k i : ℕ) (bs d : List ℕ) → i < k → get_or (first_chunks 32 k bs) i d ≡ take 32 (drop (32 * i) bs)
+chunk_is zero i bs d h = absurd (omega (arith, h))
+chunk_is (suc k) zero bs d h = refl
+chunk_is (suc k) (suc i) bs d h =
+    let n : 32 + 32 * i ≡ 32 * suc i = omega arith in
+    chunk_is k i (drop 32 bs) d (omega (arith, h)) ∙ ap (take 32) (drop-drop (32 * i) 32 bs ∙ ap (λ k. drop k bs) n)
 
 pub more_written : (shown now : List Place) (bs block : List ℕ) (count i : ℕ) (protected : Bool) → length shown ≡ count → i < count → protected ≡ false
     → now ≡ partly_written shown bs i → block ≡ take 32 (drop (32 * i) bs) → shown_after count protected now i block ≡ partly_written shown bs (i + 1)
@@ -31,8 +37,3 @@ more_written shown now bs block count i protected l h p e b =
     ∙ set_at (blocks_of i bs) (get_or shown i None) (drop (i + 1) shown) y i (length_blocks i bs)
     ∙ sym (append_assoc (blocks_of i bs) (y ∷ []) (drop (i + 1) shown))
     ∙ ap (λ t. t ++ drop (i + 1) shown) (sym (one_more_block i bs) ∙ ap (λ k. blocks_of k bs) (sym (add-one i)))
-
-pub all_written : (shown : List Place) (bs : List ℕ) (count i : ℕ) → length shown ≡ count → count ≤ i → i ≤ count → partly_written shown bs i ≡ blocks_of count bs
-all_written shown bs count i l h u =
-    let e : i ≡ count = omega arith in
-    ap₂ (λ k t. blocks_of k bs ++ t) e (drop_all i shown (omega arith)) ∙ append-nil (blocks_of count bs)

@@ -1,5 +1,5 @@
 ghost use Rattle.std.specs.Prelude.{◌≡◌, ℕ, ◌*◌, ◌≤◌, false, length, replicate};
-ghost use Rattle.image_save.specs.Saves.{ShowsImage};
+ghost use Rattle.image_save.specs.Saves.{Rewritten, ShowsImage};
 ghost use Rattle.image_writer.specs.Writes.{HasRoom};
 ghost use Rattle.maps.specs.Maps.{kinds_of};
 
@@ -10,26 +10,6 @@ use kinds::key::Key;
 use kinds::record::Record;
 use kinds::value::Value;
 use store::store::Store;
-
-// Fills the bytes with the image of what the cells hold, and writes them into the blocks.
-fn write_through<S: Store, K: Key, V: Value>(
-    store: &mut S,
-    cells: &[Option<Record<K::Row, V>>],
-    count: usize,
-    seed: u32,
-    bytes: &mut [u8],
-)
-    requires open { S.Store.protected store.old ≡ false }
-    requires whole { length bytes.old ≡ 32 * S.Store.count store.old }
-    requires room { HasRoom (kinds_of K.Key.kind V.Value.kind) seed count cells.now (32 * S.Store.count store.old) }
-    ensures count { S.Store.count store.new ≡ S.Store.count store.old }
-    ensures protect { S.Store.protected store.new ≡ S.Store.protected store.old }
-    ensures shows { ShowsImage (kinds_of K.Key.kind V.Value.kind) seed count cells.now (S.Store.count store.old) (S.Store.shown store.new) }
-    ensures keeps { S.Store.kept store.new ≡ S.Store.shown store.new }
-{
-    write_image::<K, V>(cells, count, seed, bytes);
-    write_all(store, bytes);
-}
 
 // Writes the image of what the cells hold into every block of the store, and flushes it. It goes through the work bytes, which end zero.
 // A caller sees to it that the store is not protected, that the work bytes suffice, and that the image fits.
@@ -43,13 +23,12 @@ pub fn save_image<S: Store, K: Key, V: Value>(
     requires open { S.Store.protected store.old ≡ false }
     requires suffice { 32 * S.Store.count store.old ≤ length work.old }
     requires room { HasRoom (kinds_of K.Key.kind V.Value.kind) seed count cells.now (32 * S.Store.count store.old) }
-    ensures count { S.Store.count store.new ≡ S.Store.count store.old }
-    ensures protect { S.Store.protected store.new ≡ S.Store.protected store.old }
+    ensures rewritten { Rewritten S.Store store.old store.new }
     ensures shows { ShowsImage (kinds_of K.Key.kind V.Value.kind) seed count cells.now (S.Store.count store.old) (S.Store.shown store.new) }
-    ensures keeps { S.Store.kept store.new ≡ S.Store.shown store.new }
     ensures work { work.new ≡ replicate (length work.old) 0 }
 {
     let guard = Wipe(work);
-    let end = 32 * store.count();
-    write_through::<S, K, V>(store, cells, count, seed, &mut guard.0[0..end]);
+    let bytes = &mut guard.0[..32 * store.count()];
+    write_image::<K, V>(cells, count, seed, bytes);
+    write_all(store, bytes);
 }

@@ -1,176 +1,122 @@
--- What begin rests on: the store as it is read, in the words of the calls' steps.
-use Rattle.std.proofs.Common.{◌≡◌, ℕ, suc, ◌+◌, ◌-◌, ◌*◌, ◌≤◌, Bool, cond, List, [], ◌∷◌, ◌++◌, length, take, drop, replicate, Some, None, Ok, Err, Option, Result, sym, refl, ap, ◌∙◌, subst, inl, inr, arith, length-append}
-use Rattle.image.specs.Faults.{fault_number, fault_place}
-use Rattle.image.specs.Image.{image, image_length, body}
-use Rattle.image.specs.Opened.{opened}
-use Rattle.image.specs.declared.fault.ImageFault.{ImageFault}
-use Rattle.image_store.specs.Loads.{bytes_of, lost, first_lost, unless_lost, Whole, store_opened, seed_and_count_told, cells_left, ReadsStore}
+-- What begin rests on: a reading of the store, as the step of a call.
+use Rattle.std.proofs.Common.{◌≡◌, ℕ, List, [], length, Ok, Err, Option, Result, sym, refl, ap, ap₂, ◌∙◌, inl, inr, arith}
 use Rattle.kinds.specs.Kinds.{KeyKind, ValueKind}
 use Rattle.kinds.specs.declared.record.Record.{Record}
-use Rattle.layout.specs.Capacity.{capacity}
-use Rattle.layout.specs.Tests.{lowest}
-use Rattle.maps.specs.Maps.{Kinds, kinds_of, Contents, contents}
-use Rattle.model.specs.Blocks as Blocks
-use Rattle.model.specs.Faults.{Fault, fault_at}
+use Rattle.maps.specs.Maps.{kinds_of}
+use Rattle.model.specs.Faults.{Fault}
 use Rattle.model.specs.Refusals.{begin_refusal}
-use Rattle.model.specs.Setups.{Shows}
-use Rattle.model.specs.Steps.{Step}
-use Rattle.model.specs.Worlds.{Store, Phase, Call, work_piece}
-use Rattle.model.proofs.Refusals.{not_refused}
-use Rattle.store.specs.Answers.{Answer, told}
-use Rattle.store.specs.Places.{Place}
-use Rattle.register.specs.Contents.{FoundIn}
-use Rattle.register.specs.Faults.{told as told_by}
-use Rattle.register.specs.Worlds.{image_bytes, setup, closed_world, opening_event}
+use Rattle.model.specs.Steps.{Step, Refuses, Reads}
+use Rattle.model.specs.Worlds.{Store, Phase, Call, Outcome, Event, work_piece}
+use Rattle.model.proofs.Refusals.{unless_as}
+use Rattle.contents.specs.Faults.{told}
+use Rattle.contents.specs.Finds.{Finds, Tried, Reading, reading, not_tried, laid_out}
+use Rattle.store.specs.declared.fault.BlockFault.{Ghosts as FaultWords}
+use Rattle.store.specs.declared.store.Store.{Ghosts as StoreWords}
+use Rattle.contents.specs.Setups.{setup, meaning}
+use Rattle.contents.specs.declared.fault.RegisterFault.{RegisterFault}
+use Rattle.register.specs.Worlds.{OpeningOf, batch_in, batch_under, closed_world, opening_event}
 use Rattle.register.specs.declared.batch.Closed.{Closed}
-use Rattle.register.specs.declared.batch.Opening.TheVariants.{Opened, Refused}
+use Rattle.register.specs.declared.batch.Open.{Open}
 use Rattle.register.specs.declared.batch.Token.{Token}
-use Rattle.register.specs.declared.fault.RegisterFault.{RegisterFault}
-use Rattle.register.specs.declared.fault.RegisterFault.TheVariants.{Image}
-use Rattle.register.proofs.Retold.{lift, same_number, same_place, opened_lifts}
 
--- the bytes of a store, and its lowest unreadable block, are said twice
-same_bytes : (ps : List Place) → bytes_of ps ≡ Blocks.bytes_of ps
-same_bytes [] = refl
-same_bytes (None ∷ ps) = same_bytes ps
-same_bytes (Some b ∷ ps) = ap (λ bs. b ++ bs) (same_bytes ps)
+-- what an answer gives, and what it refuses with
+abbrev given : Result (ℕ × ℕ) Fault → ℕ × ℕ
+given (Ok p) = p
+given (Err f) = (0, 0)
 
-lowest_lost : (ps : List Place) (t : ℕ → Bool) (k : ℕ) → ((i : ℕ) → t (k + i) ≡ lost ps i) → lowest t k (length ps) ≡ Blocks.unreadable k ps
-lowest_lost [] t k h = refl
-lowest_lost (None ∷ ps) t k h = ap (λ b. cond b (Some k) (lowest t (k + 1) (length ps))) (ap t (omega arith) ∙ h 0)
-lowest_lost (Some b ∷ ps) t k h =
-    ap (λ b. cond b (Some k) (lowest t (k + 1) (length ps))) (ap t (omega arith) ∙ h 0)
-    ∙ lowest_lost ps t (k + 1) (λ i. ap t (omega arith) ∙ h (suc i))
-    ∙ ap (λ (n : ℕ). Blocks.unreadable n ps) (omega arith)
+abbrev fault_or : Fault → Result (ℕ × ℕ) Fault → Fault
+fault_or g (Ok p) = g
+fault_or g (Err f) = f
 
-same_lost : (ps : List Place) → first_lost ps ≡ Blocks.unreadable 0 ps
-same_lost ps = lowest_lost ps (lost ps) 0 (λ i. ap (lost ps) (omega arith))
+not_both : {A : Type 0} (p : ℕ × ℕ) (f : Fault) → ◌≡◌ {A = Result (ℕ × ℕ) Fault} (Ok p) (Err f) → A
+not_both p f e = let z : ◌≡◌ {A = ℕ} 0 1 = cc in absurd (omega arith)
 
-take_front : (b bs : List ℕ) (n : ℕ) → length b ≡ n → take n (b ++ bs) ≡ b
-take_front [] bs n e = ap (λ (k : ℕ). take k bs) (sym e)
-take_front (a ∷ b) bs n e = ap (λ (k : ℕ). take k (a ∷ (b ++ bs))) (sym e) ∙ ap (λ zs. a ∷ zs) (take_front b bs (length b) refl)
+module _ {S F K Row V : Type 0} (k : KeyKind K Row) (v : ValueKind V) (w : FaultWords F) (d : StoreWords S F) (c : Closed S)
+    (cells cells' : List (Option (Record Row V))) (work work' : List ℕ) where
+  abbrev begins : OpeningOf S F → Event Row V
+  begins r = opening_event {F = F} Call.begin (work_piece work) w d r cells' (work_piece work')
 
-drop_front : (b bs : List ℕ) (n : ℕ) → length b ≡ n → drop n (b ++ bs) ≡ bs
-drop_front [] bs n e = ap (λ (k : ℕ). drop k bs) (sym e)
-drop_front (a ∷ b) bs n e = ap (λ (k : ℕ). drop k (a ∷ (b ++ bs))) (sym e) ∙ drop_front b bs (length b) refl
+  abbrev read : Result (ℕ × ℕ) (RegisterFault F) → Reading (ℕ × ℕ) Row V
+  read r = reading w r cells' work'
 
--- whole blocks are those of their bytes
-blocks_bytes : (ps : List Place) → Whole ps → Blocks.blocks_of (length ps) (bytes_of ps) ≡ ps
-blocks_bytes [] w = refl
-blocks_bytes (None ∷ ps) w = absurd w
-blocks_bytes (Some b ∷ ps) w =
-    let p = take_front b (bytes_of ps) 32 w.0 in
-    let q = ap (Blocks.blocks_of (length ps)) (drop_front b (bytes_of ps) 32 w.0) ∙ blocks_bytes ps w.1 in
-    λ i. Some (p i) ∷ q i
+  answer_of : {a b : Reading (ℕ × ℕ) Row V} → a ≡ b → a.answer ≡ b.answer
+  answer_of e = ap (λ (q : Reading (ℕ × ℕ) Row V). q.answer) e
 
-length_bytes : (ps : List Place) → Whole ps → length (bytes_of ps) ≡ 32 * length ps
-length_bytes [] w = refl
-length_bytes (None ∷ ps) w = absurd w
-length_bytes (Some b ∷ ps) w = let r = length_bytes ps w.1 in let l = w.0 in length-append b (bytes_of ps) ∙ omega arith
+  cells_of : {a b : Reading (ℕ × ℕ) Row V} → a ≡ b → a.cells ≡ b.cells
+  cells_of e = ap (λ (q : Reading (ℕ × ℕ) Row V). q.cells) e
 
--- a refusal gives nothing, so it is one of any type
-abbrev refusal : {A B : Type 0} → Answer B → Answer A → Answer B
-refusal b (Answer.given a) = b
-refusal b (Answer.refused n p) = Answer.refused n p
+  work_of : {a b : Reading (ℕ × ℕ) Row V} → a ≡ b → a.work ≡ b.work
+  work_of e = ap (λ (q : Reading (ℕ × ℕ) Row V). q.work) e
 
--- a refusal that is told of the store
-found_by : {F K Row V : Type 0} (x : Kinds K Row V) (number block : F → ℕ) (n : ℕ) (f : ImageFault F) (cells : List (Option (Record Row V))) (a : Answer (Contents K V))
-    → Answer.refused (fault_number number f) (fault_place block f) ≡ seed_and_count_told x a → cells ≡ cells_left x n a
-    → (a ≡ Answer.refused (fault_number number f) (fault_place block f)) × (cells ≡ replicate n None)
-found_by x number block n f cells (Answer.given h) e q = let z : ◌≡◌ {A = ℕ} 0 1 = cc in absurd (omega arith)
-found_by x number block n f cells (Answer.refused m p) e q = (ap (refusal (Answer.refused m p)) (sym e), q)
-
-pub refused_found : {F K Row V : Type 0} (x : Kinds K Row V) (number block : F → ℕ) (shown : List Place) (n : ℕ) (f : ImageFault F) (r : Result (ℕ × ℕ) (RegisterFault F)) (cells : List (Option (Record Row V)))
-    → r ≡ Err (Image f)
-    → Answer.refused (fault_number number f) (fault_place block f) ≡ seed_and_count_told x (store_opened x number block shown) → cells ≡ cells_left x n (store_opened x number block shown)
-    → FoundIn x number block shown n r cells
-refused_found x number block shown n f r cells e answer left =
-    subst (λ r. FoundIn x number block shown n r cells) (sym e) (found_by x number block n f cells (store_opened x number block shown) answer left)
-
--- an answer's refusal
-abbrev fault_told : {A : Type 0} → Answer A → Option Fault
-fault_told (Answer.given a) = None
-fault_told (Answer.refused n p) = Some (fault_at n p)
-
-module _ {K Row V : Type 0} (k : KeyKind K Row) (v : ValueKind V) where
-  abbrev x : Kinds K Row V
-  x = kinds_of k v
-
-  -- what is wrong with bytes
-  abbrev in_bytes : List ℕ → Option Fault
-  in_bytes bs = Blocks.fault_of (image_bytes x).fault (opened x bs)
-
-  -- what is wrong is what the store is refused with
-  pub same_wrong : {F : Type 0} (number block : F → ℕ) (shown : List Place) → (setup k v).codec.wrong shown ≡ fault_told (store_opened x number block shown)
-  same_wrong {F} number block shown =
-      ap (λ o. Blocks.unless_unreadable o (in_bytes (Blocks.bytes_of shown))) (sym (same_lost shown))
-      ∙ ap (λ bs. Blocks.unless_unreadable (first_lost shown) (in_bytes bs)) (sym (same_bytes shown))
-      ∙ by_lost (first_lost shown)
-    where
-      by_opened : (r : Result (Contents K V) (ImageFault ⊥)) → Blocks.fault_of (image_bytes x).fault r ≡ fault_told (told (fault_number number) (fault_place block) (lift {F = F} r))
-      by_opened (Ok h) = refl
-      by_opened (Err f) = let n = same_number number f in let p = same_place block f in λ i. Some (fault_at (sym n i) (sym p i))
-
-      by_lost : (o : Option ℕ) → Blocks.unless_unreadable o (in_bytes (bytes_of shown)) ≡ fault_told (unless_lost o (told (fault_number number) (fault_place block) (opened {F = F} x (bytes_of shown))))
-      by_lost (Some i) = refl
-      by_lost None = by_opened (opened x (bytes_of shown)) ∙ ap (λ r. fault_told (told (fault_number number) (fault_place block) r)) (sym (opened_lifts F x (bytes_of shown)))
-
-  fits : (n : ℕ) (h : Contents K V) → length (image x n h) ≡ n → image_length x h ≤ n
-  unfolding image
-  fits n h e = let l = length-append (body x h) (replicate (n - image_length x h) 0) in omega (arith, l, e)
-
-  -- a store that is read is one that shows the image
-  pub shows : (E : Type 0) (count : ℕ) (shown : List Place) (p : ℕ × ℕ) (cells : _) → length shown ≡ count → (r : ReadsStore x {E = E} shown (Ok p) cells) → Shows (setup k v) count shown (contents p.0 r.2.0)
-  shows E count shown p cells size r =
-      let h = contents p.0 r.2.0 in
-      let l : length (bytes_of shown) ≡ 32 * count = length_bytes shown r.1 ∙ ap (λ (n : ℕ). 32 * n) size in
-      let is : bytes_of shown ≡ image x (32 * count) h = r.2.3 ∙ ap (λ (n : ℕ). image x n h) l in
-      record {
-        lawful = r.2.1.lawful;
-        fits = fits (32 * count) h (ap length (sym is) ∙ l);
-        image = sym (blocks_bytes shown r.1) ∙ ap (λ (n : ℕ). Blocks.blocks_of n (bytes_of shown)) size ∙ ap (Blocks.blocks_of count) is;
-      }
-
-module _ {S F K Row V : Type 0} (k : KeyKind K Row) (v : ValueKind V) (number block : F → ℕ) (d : S → Store) (c : Closed S)
-    (cells cells' : List (Option (Record Row V))) (work work' : List ℕ)
-    (free : None ≡ begin_refusal (d c.store).count (length cells) (length work)) (zero : work' ≡ replicate (length work) 0) where
-  pub begun_step : (kk vk cap seed count : ℕ) (t : Token) → kk ≡ k.number → vk ≡ v.number → cap ≡ capacity count → length (d c.store).shown ≡ (d c.store).count
-      → FoundIn (kinds_of k v) number block (d c.store).shown (length cells) (Ok (seed, count)) cells'
-      → Step (setup k v) (closed_world d c cells) (opening_event {F = F} Call.begin (work_piece work) number block d (Opened (record { store = c.store; key_kind = kk; value_kind = vk; seed = seed; count = count; capacity = cap }) t) cells' (work_piece work'))
-  begun_step kk vk cap seed count t p q room size r =
-      let n = r.2.2 in
-      let demanded = room ∙ ap capacity n in
-      record {
-        does = not_refused _ _ free (inl (
-          contents seed r.2.0,
-          shows k v (RegisterFault F) (d c.store).count (d c.store).shown (seed, count) cells' size r,
+  module _ (seed count : ℕ) (opened : Open S × Token) (store : opened.0.store ≡ c.store) (batch : batch_in opened.0 ≡ batch_under (kinds_of k v) seed count) where
+    tried : Tried (setup k v) (meaning d c.store) cells work (laid_out (setup k v) work) (read (Ok (seed, count))) → Reads (setup k v) (closed_world d c cells) (begins (Ok opened))
+    tried (inr (f, wrong, e)) = not_both (seed, count) f (answer_of e)
+    tried (inl (h, shows, e)) =
+        let pair = ap given (answer_of e) in
+        let s : seed ≡ h.seed = ap (λ (z : ℕ × ℕ). z.0) pair in
+        let n : count ≡ length h.records = ap (λ (z : ℕ × ℕ). z.1) pair in
+        let cleared = work_of e in
+        inl (
+          h,
+          shows,
           record {
             outcome = refl;
-            phase = λ i. Phase.opened (record { key_kind = p i; value_kind = q i; seed = seed; count = n i; capacity = demanded i });
-            count = refl;
-            protected = refl;
-            shown = refl;
-            cells = r.2.1.is;
-            lent = λ i. record { work = zero i; scratch = []; answers = []; output = [] };
+            phase = ap Phase.opened (batch ∙ ap₂ (batch_under (kinds_of k v)) s n);
+            count = ap d.count store;
+            protected = ap d.protected store;
+            shown = ap d.shown store;
+            cells = cells_of e;
+            lent = λ i. record { work = cleared i; scratch = []; answers = []; output = [] };
           },
-        ));
-      }
+        )
 
-  pub not_begun_step : (f : RegisterFault F) → FoundIn (kinds_of k v) number block (d c.store).shown (length cells) (Err f) cells'
-      → Step (setup k v) (closed_world d c cells) (opening_event {F = F} Call.begin (work_piece work) number block d (Refused c f) cells' (work_piece work'))
-  not_begun_step f r =
-      record {
-        does = not_refused _ _ free (inr (
-          told_by number block f,
-          same_wrong k v number block (d c.store).shown ∙ ap fault_told r.0,
+    pub begun_step : Finds (setup k v) (meaning d c.store) cells work (read (Ok (seed, count))) → Step (setup k v) (closed_world d c cells) (begins (Ok opened))
+    begun_step r = record {
+      does = unless_as (begin_refusal (d.count c.store) (length cells) (length work)) (λ f. read (Ok (seed, count)) ≡ not_tried cells work f)
+          (Refuses (closed_world d c cells) (begins (Ok opened)))
+          (Tried (setup k v) (meaning d c.store) cells work (laid_out (setup k v) work) (read (Ok (seed, count)))) (Reads (setup k v) (closed_world d c cells) (begins (Ok opened)))
+          (λ f e. not_both (seed, count) f (answer_of e)) tried r;
+    }
+
+  module _ (f : RegisterFault F) where
+    -- refused with everything as it was, or with the cells emptied and the work bytes zero
+    refuses : (g : Fault) → read (Err f) ≡ not_tried cells work g → Refuses (closed_world d c cells) (begins (Err (c, f))) g
+    refuses g e =
+        let told_is = ap (fault_or g) (answer_of e) in
+        let same = work_of e in
+        record {
+          outcome = λ i. Outcome.refused (told_is i);
+          phase = refl;
+          count = refl;
+          protected = refl;
+          shown = refl;
+          cells = cells_of e;
+          lent = λ i. record { work = same i; scratch = []; answers = []; output = [] };
+        }
+
+    not_found : Tried (setup k v) (meaning d c.store) cells work (laid_out (setup k v) work) (read (Err f)) → Reads (setup k v) (closed_world d c cells) (begins (Err (c, f)))
+    not_found (inl (h, shows, e)) = not_both (h.seed, length h.records) (told w f) (sym (answer_of e))
+    not_found (inr (g, wrong, e)) =
+        let told_is = ap (fault_or g) (answer_of e) in
+        let cleared = work_of e in
+        inr (
+          g,
+          wrong,
           record {
-            outcome = refl;
+            outcome = λ i. Outcome.refused (told_is i);
             phase = refl;
             count = refl;
             protected = refl;
             shown = refl;
-            cells = r.1;
-            lent = λ i. record { work = zero i; scratch = []; answers = []; output = [] };
+            cells = cells_of e;
+            lent = λ i. record { work = cleared i; scratch = []; answers = []; output = [] };
           },
-        ));
-      }
+        )
+
+    pub not_begun_step : Finds (setup k v) (meaning d c.store) cells work (read (Err f)) → Step (setup k v) (closed_world d c cells) (begins (Err (c, f)))
+    not_begun_step r = record {
+      does = unless_as (begin_refusal (d.count c.store) (length cells) (length work)) (λ g. read (Err f) ≡ not_tried cells work g)
+          (Refuses (closed_world d c cells) (begins (Err (c, f))))
+          (Tried (setup k v) (meaning d c.store) cells work (laid_out (setup k v) work) (read (Err f))) (Reads (setup k v) (closed_world d c cells) (begins (Err (c, f))))
+          refuses not_found r;
+    }

@@ -9,7 +9,7 @@ use Rattle.maps.specs.Commands.{row_of, answers_to}
 use Rattle.maps.specs.Maps.{Kinds, kinds_of}
 use Rattle.maps.specs.declared.Answer.{Answer}
 use Rattle.maps.specs.declared.Command.{Command}
-use Rattle.model.specs.Faults.{kind_fault, lent_fault}
+use Rattle.model.specs.Faults.{Fault, kind_fault, lent_fault}
 use Rattle.model.specs.Refusals.{first, other_kinds, all_keys, wrong_lengths, enter_refusal}
 use Rattle.model.specs.Steps.{Step}
 use Rattle.model.specs.Worlds.{Store, Phase, Outcome, sheet_pieces}
@@ -19,11 +19,14 @@ use Rattle.sheets.specs.Checks.{IsTable}
 use Rattle.sheets.specs.Sheets.{all_rows_keyed, well_lent, Refused, Pieces, SheetRun}
 use Rattle.sheets.specs.declared.sheet.SheetFault.{SheetFault}
 use Rattle.sheets.specs.declared.sheet.SheetFault.TheVariants as Why
-use Rattle.register.specs.Faults.{of_sheet}
+use Rattle.contents.specs.Faults.{of_sheet}
 use Rattle.register.specs.Sheets.{enter_event}
-use Rattle.register.specs.Worlds.{setup, batch_in, open_world}
+use Rattle.store.specs.declared.fault.BlockFault.{Ghosts as FaultWords}
+use Rattle.store.specs.declared.store.Store.{Ghosts as StoreWords}
+use Rattle.contents.specs.Setups.{setup, meaning}
+use Rattle.register.specs.Worlds.{batch_in, open_world}
 use Rattle.register.specs.declared.batch.Open.{Open}
-use Rattle.register.specs.declared.fault.RegisterFault.{RegisterFault}
+use Rattle.contents.specs.declared.fault.RegisterFault.{RegisterFault}
 
 same_keys : {K Row V : Type 0} (x : Kinds K Row V) (sheet : List (Command Row V)) → all_rows_keyed x sheet ≡ all_keys x sheet
 unfolding all_rows_keyed
@@ -42,32 +45,37 @@ module _ {K Row V : Type 0} (x : Kinds K Row V) (other : Bool) (room : ℕ) (she
       (ap₂ (λ p q. p || not q) o (sym (same_keys x sheet) ∙ k))
       (right_lengths room (length scratch) (length sheet) (length answers) ∙ ap not l))
 
-module _ {S F K Row V : Type 0} (k : KeyKind K Row) (v : ValueKind V) (number block : F → ℕ) (d : S → Store) (o : Open S)
+-- the kinds were looked at, and are the batch's
+pub own : (other : Bool) (f : Fault) → None ≡ first ((other, f) ∷ []) → other ≡ false
+own true f e = let z : ◌≡◌ {A = ℕ} 0 1 = cc in absurd (omega arith)
+own false f e = refl
+
+module _ {S F K Row V : Type 0} (k : KeyKind K Row) (v : ValueKind V) (w : FaultWords F) (d : StoreWords S F) (o : Open S)
     (cells : List (Option (Record Row V))) (scratch : List (Option (Record Row V))) (sheet : List (Command Row V)) (answers : List (Answer V))
-    (own : other_kinds (kinds_of k v) (batch_in o) ≡ false) where
+    (same : other_kinds (kinds_of k v) (batch_in o) ≡ false) where
   abbrev before : Pieces Row V
   before = record { cells = cells; scratch = scratch; answers = answers }
 
   -- refused, everything is as it was
   pub refused_step : (f : SheetFault) (after : Pieces Row V) (told : Result Unit (RegisterFault F)) → told ≡ Err (of_sheet f) → SheetRun (kinds_of k v) o.seed o.count o.capacity sheet before after (Err f)
-      → Step (setup k v) (open_world d o cells) (enter_event number block sheet scratch answers told (open_world d o after.cells) after.scratch after.answers)
+      → Step (setup k v) (open_world d o cells) (enter_event w sheet scratch answers told (open_world d o after.cells) after.scratch after.answers)
   refused_step f after told e r =
-      subst (λ (q : Result Unit (RegisterFault F)). Step (setup k v) (open_world d o cells) (enter_event number block sheet scratch answers q (open_world d o after.cells) after.scratch after.answers)) (sym e)
-      (subst (λ (p : Pieces Row V). Step (setup k v) (open_world d o cells) (enter_event number block sheet scratch answers (Err (of_sheet f)) (open_world d o p.cells) p.scratch p.answers))
+      subst (λ (q : Result Unit (RegisterFault F)). Step (setup k v) (open_world d o cells) (enter_event w sheet scratch answers q (open_world d o after.cells) after.scratch after.answers)) (sym e)
+      (subst (λ (p : Pieces Row V). Step (setup k v) (open_world d o cells) (enter_event w sheet scratch answers (Err (of_sheet f)) (open_world d o p.cells) p.scratch p.answers))
       (sym r.1) (by f r.0))
     where
       by : (f : SheetFault) → Refused (all_rows_keyed (kinds_of k v) sheet) (well_lent (length cells) (length scratch) (length sheet) (length answers)) (IsTable (kinds_of k v) o.seed o.count o.capacity cells) f
-          → Step (setup k v) (open_world d o cells) (enter_event number block sheet scratch answers (Err (of_sheet f)) (open_world d o cells) scratch answers)
+          → Step (setup k v) (open_world d o cells) (enter_event w sheet scratch answers (Err (of_sheet f)) (open_world d o cells) scratch answers)
       by Why.Kind h = record {
-        does = refused_with _ _ (refusal_is (kinds_of k v) _ (length cells) sheet scratch answers false _ own h refl)
+        does = refused_with _ _ (refusal_is (kinds_of k v) _ (length cells) sheet scratch answers false _ same h refl)
             (record { outcome = refl; phase = refl; count = refl; protected = refl; shown = refl; cells = refl; lent = refl });
       }
       by Why.Lent h = record {
-        does = refused_with _ _ (refusal_is (kinds_of k v) _ (length cells) sheet scratch answers true false own h.0 h.1)
+        does = refused_with _ _ (refusal_is (kinds_of k v) _ (length cells) sheet scratch answers true false same h.0 h.1)
             (record { outcome = refl; phase = refl; count = refl; protected = refl; shown = refl; cells = refl; lent = refl });
       }
       by Why.Cells h = record {
-        does = not_refused _ _ (refusal_is (kinds_of k v) _ (length cells) sheet scratch answers true true own h.0 h.1)
+        does = not_refused _ _ (refusal_is (kinds_of k v) _ (length cells) sheet scratch answers true true same h.0 h.1)
             (inr (
               (λ m l. h.2 ((m, l.laid, l.count), l.room ∙ ap capacity (sym l.count))),
               record { outcome = refl; phase = refl; count = refl; protected = refl; shown = refl; cells = refl; lent = refl },
@@ -76,7 +84,7 @@ module _ {S F K Row V : Type 0} (k : KeyKind K Row) (v : ValueKind V) (number bl
 
   pub entered_step : (left cap : ℕ) (after : Pieces Row V) → cap ≡ capacity left → length after.scratch ≡ length scratch → SheetRun (kinds_of k v) o.seed o.count o.capacity sheet before after (Ok left)
       → Step (setup k v) (open_world d o cells)
-      (enter_event {F = F} number block sheet scratch answers (Ok tt) (open_world d (record { store = o.store; key_kind = o.key_kind; value_kind = o.value_kind; seed = o.seed; count = left; capacity = cap }) after.cells) after.scratch after.answers)
+      (enter_event {F = F} w sheet scratch answers (Ok tt) (open_world d (record { store = o.store; key_kind = o.key_kind; value_kind = o.value_kind; seed = o.seed; count = left; capacity = cap }) after.cells) after.scratch after.answers)
   entered_step left cap after c l r =
       let x = kinds_of k v in
       let judged = r.0 in
@@ -84,9 +92,9 @@ module _ {S F K Row V : Type 0} (k : KeyKind K Row) (v : ValueKind V) (number bl
       let h = judged.2.0.1 in
       let n = judged.2.0.2 in
       let ran = r.1 m h n in
-      let same = same_numbers x (batch_in o) own in
-      let p = same.0 in
-      let q = same.1 in
+      let numbers = same_numbers x (batch_in o) same in
+      let p = numbers.0 in
+      let q = numbers.1 in
       let e = ran.counted in
       let z = c ∙ ap capacity e in
       let size = answers_length x sheet m in
@@ -94,7 +102,7 @@ module _ {S F K Row V : Type 0} (k : KeyKind K Row) (v : ValueKind V) (number bl
       let front : take (length sheet) after.answers ≡ answers_to x sheet m = ap (take (length sheet)) ran.told ∙ take_at (answers_to x sheet m) (drop (length sheet) answers) (length sheet) size in
       let spare = ran.emptied ∙ ap (λ n. replicate n None) l in
       record {
-        does = not_refused _ _ (refusal_is x _ (length cells) sheet scratch answers true true own judged.0 judged.1)
+        does = not_refused _ _ (refusal_is x _ (length cells) sheet scratch answers true true same judged.0 judged.1)
             (inl (
               m,
               record { laid = h; count = n; room = judged.2.1 ∙ ap capacity n },

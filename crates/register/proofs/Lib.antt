@@ -3,7 +3,4 @@ pub mod Copies
 pub mod Entering
 pub mod Listed
 pub mod Openings
-pub mod Retold
 pub mod Sealed
-pub mod Setups
-pub mod Writes

@@ -12,11 +12,14 @@ use Rattle.model.proofs.Pieces.{listed_front}
 use Rattle.model.proofs.Refusals.{not_refused, list_taken}
 use Rattle.sheets.specs.Checks.{IsTable}
 use Rattle.register.specs.Sheets.{list_event}
-use Rattle.register.specs.Worlds.{setup, batch_in, open_world}
+use Rattle.store.specs.declared.fault.BlockFault.{Ghosts as FaultWords}
+use Rattle.store.specs.declared.store.Store.{Ghosts as StoreWords}
+use Rattle.contents.specs.Setups.{setup, meaning}
+use Rattle.register.specs.Worlds.{batch_in, open_world}
 use Rattle.register.specs.declared.batch.Open.{Open}
-use Rattle.register.specs.declared.fault.RegisterFault.TheVariants.{Cells}
+use Rattle.contents.specs.declared.fault.RegisterFault.TheVariants.{Cells}
 
-module _ {S F K Row V : Type 0} (k : KeyKind K Row) (v : ValueKind V) (number block : F → ℕ) (d : S → Store) (o : Open S) (cells : List (Option (Record Row V))) where
+module _ {S F K Row V : Type 0} (k : KeyKind K Row) (v : ValueKind V) (w : FaultWords F) (d : StoreWords S F) (o : Open S) (cells : List (Option (Record Row V))) where
   -- what the check of the cells tells, as the steps have it
   pub laid_for : (t : IsTable (kinds_of k v) o.seed o.count o.capacity cells) → LaidFor (kinds_of k v) (batch_in o) t.0.0 cells
   laid_for t = record { laid = t.0.1; count = t.0.2; room = t.1 ∙ ap capacity t.0.2 }
@@ -26,7 +29,7 @@ module _ {S F K Row V : Type 0} (k : KeyKind K Row) (v : ValueKind V) (number bl
 
   module _ (laws : KeyLaws k) (output : List (Option (Record Row V))) (free : None ≡ list_refusal (other_kinds (kinds_of k v) (batch_in o)) (length cells) o.count (length output)) where
     pub no_cells_step : (IsTable (kinds_of k v) o.seed o.count o.capacity cells → ⊥)
-        → Step (setup k v) (open_world d o cells) (list_event {F = F} number block output (Err Cells) (open_world d o cells) output)
+        → Step (setup k v) (open_world d o cells) (list_event {F = F} w output (Err Cells) (open_world d o cells) output)
     no_cells_step none = record {
       does = not_refused _ _ free (inr (
         (λ m l. none (table_of m l)),
@@ -48,7 +51,7 @@ module _ {S F K Row V : Type 0} (k : KeyKind K Row) (v : ValueKind V) (number bl
       listing_fits = omega (arith, ap length same_listing, size, (list_taken (other_kinds (kinds_of k v) (batch_in o)) (length cells) o.count (length output) (sym free)).2)
 
       pub listed_step : (output' : List (Option (Record Row V))) → output' ≡ over_first (map Some (in_cells cells)) output
-          → Step (setup k v) (open_world d o cells) (list_event {F = F} number block output (Ok o.count) (open_world d o cells) output')
+          → Step (setup k v) (open_world d o cells) (list_event {F = F} w output (Ok o.count) (open_world d o cells) output')
       listed_step output' e =
           let rs = listing (kinds_of k v) (contents o.seed m) in
           let q : output' ≡ over_first (map Some rs) output = e ∙ ap (λ xs. over_first (map Some xs) output) same_listing in

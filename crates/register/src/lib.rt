@@ -2,6 +2,6 @@
 #![tactic(auto)]
 
 pub mod batch;
-mod blocks;
-pub mod fault;
+pub use contents::fault;
+
 mod listing;

@@ -3,7 +3,7 @@ use numbers::papers::Papers;
 use numbers::staff::StaffNumber;
 use register::batch::ends::abandon;
 use register::batch::opens::begin;
-use register::batch::{Closed, Opening};
+use register::batch::Closed;
 use store::checked::CheckedStore;
 use store::plain::PlainStore;
 use store::store::Store;
@@ -27,50 +27,46 @@ fn image_but(place: usize, byte: u8) -> [u8; 64] {
     bytes
 }
 
-// The number and the place of begin's refusal, or zeros.
-fn refusal<S: Store>(closed: Closed<S>) -> (S, u8, usize) {
+// The number and the place of begin's refusal, if it refuses.
+fn refusal<S: Store>(closed: Closed<S>) -> (S, Option<(u8, usize)>) {
     let mut cells: [Option<Record<u32, Papers>>; 1024] = [None; 1024];
     let mut work = [1; 64];
     match begin::<S, StaffNumber, Papers>(closed, &mut cells, &mut work) {
-        Opening::Opened(batch, token) => (
-            abandon::<S, StaffNumber, Papers>(batch, token, &mut cells).into_store(),
-            0,
-            0,
-        ),
-        Opening::Refused(closed, fault) => (closed.into_store(), fault.number(), fault.place()),
+        Ok((batch, token)) => {
+            let closed = abandon::<S, StaffNumber, Papers>(batch, token, &mut cells);
+            (closed.into_store(), None)
+        }
+        Err((closed, fault)) => (closed.into_store(), Some((fault.number(), fault.place()))),
     }
 }
 
-fn refusal_of(place: usize, byte: u8) -> (u8, usize) {
+fn refusal_of(place: usize, byte: u8) -> Option<(u8, usize)> {
     let mut bytes = image_but(place, byte);
-    let (_, number, at) = refusal(Closed::new(PlainStore::new(&mut bytes, false)));
-    (number, at)
+    refusal(Closed::new(PlainStore::new(&mut bytes, false))).1
 }
 
 #[test]
 fn begin_refuses_what_is_no_image(rt: HostRuntime) {
-    assert_eq!(rt; refusal_of(0, 1), (0, 0));
-    assert_eq!(rt; refusal_of(3, 4), (4, 4));
-    assert_eq!(rt; refusal_of(31, 7), (4, 31));
-    assert_eq!(rt; refusal_of(32, 16), (5, 32));
-    assert_eq!(rt; refusal_of(36, 9), (7, 5));
-    assert_eq!(rt; refusal_of(63, 1), (8, 63));
+    assert_eq!(rt; refusal_of(0, 1), None);
+    assert_eq!(rt; refusal_of(3, 4), Some((4, 4)));
+    assert_eq!(rt; refusal_of(31, 7), Some((4, 31)));
+    assert_eq!(rt; refusal_of(32, 16), Some((5, 32)));
+    assert_eq!(rt; refusal_of(36, 9), Some((7, 5)));
+    assert_eq!(rt; refusal_of(63, 1), Some((8, 63)));
 }
 
 #[test]
 fn begin_refuses_a_record_past_the_end(rt: HostRuntime) {
     let mut bytes = image_but(5, 6);
     bytes[32] = 63;
-    let (_, number, place) = refusal(Closed::new(PlainStore::new(&mut bytes, false)));
-    assert_eq!(rt; number, 6);
-    assert_eq!(rt; place, 63);
+    let (_, refused) = refusal(Closed::new(PlainStore::new(&mut bytes, false)));
+    assert_eq!(rt; refused, Some((6, 63)));
 }
 
 #[test]
 fn begin_refuses_an_unreadable_block(rt: HostRuntime) {
     let mut bytes = [0; 68];
     bytes[40] = 1;
-    let (_, number, place) = refusal(Closed::new(CheckedStore::new(&mut bytes, false)));
-    assert_eq!(rt; number, 3);
-    assert_eq!(rt; place, 1);
+    let (_, refused) = refusal(Closed::new(CheckedStore::new(&mut bytes, false)));
+    assert_eq!(rt; refused, Some((3, 1)));
 }

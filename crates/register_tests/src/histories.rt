@@ -48,9 +48,7 @@ fn other_histories_with_the_same_end_keep_the_same_bytes(rt: HostRuntime) {
             put(9, 4),
         ],
     );
-    for i in 0..256 {
-        assert_eq!(rt; first[i], second[i]);
-    }
+    assert_eq!(rt; first, second);
     assert_eq!(rt; first[0], 1);
     assert_eq!(rt; first[3], 3);
     assert_eq!(rt; first[5], 2);

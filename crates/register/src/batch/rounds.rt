@@ -1,13 +1,14 @@
 // A round of calls, from a closed register to a closed register.
 ghost use Rattle.std.specs.Prelude.{ℕ};
+ghost use Rattle.contents.specs.Setups.{setup};
 ghost use Rattle.model.specs.Runs.{Ran};
-ghost use Rattle.register.specs.Worlds.{setup, meaning, closed_world};
+ghost use Rattle.register.specs.Worlds.{closed_world};
 
 use super::ends::abandon;
 use super::enters::enter;
 use super::opens::start;
 use super::seals::seal;
-use super::{Closed, Opening, Sealing};
+use super::Closed;
 use kinds::key::Key;
 use kinds::record::Record;
 use kinds::value::Value;
@@ -25,15 +26,15 @@ pub fn keep_sheet<S: Store, K: Key, V: Value>(
     answers: &mut [Answer<V>],
     work: &mut [u8],
 ) -> Closed<S>
-    ensures { Ran (setup K.Key.kind V.Value.kind) (closed_world (meaning S.Store.count S.Store.protected S.Store.shown S.Store.kept) closed cells.old) (closed_world (meaning S.Store.count S.Store.protected S.Store.shown S.Store.kept) result cells.new) }
+    ensures { Ran (setup K.Key.kind V.Value.kind) (closed_world S.Store closed cells.old) (closed_world S.Store result cells.new) }
 {
     match start::<S, K, V>(closed, seed, cells) {
-        Opening::Refused(closed, _) => closed,
-        Opening::Opened(mut batch, token) => {
+        Err((closed, _)) => closed,
+        Ok((mut batch, token)) => {
             let _ = enter::<S, K, V>(&mut batch, cells, scratch, sheet, answers);
             match seal::<S, K, V>(batch, token, cells, work) {
-                Sealing::Sealed(closed) => closed,
-                Sealing::Refused(batch, token, _) => abandon::<S, K, V>(batch, token, cells),
+                Ok(closed) => closed,
+                Err((batch, token, _)) => abandon::<S, K, V>(batch, token, cells),
             }
         }
     }

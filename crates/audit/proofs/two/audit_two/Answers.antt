@@ -1,6 +1,7 @@
-use Rattle.std.proofs.Common.{replicate, None, Ok, Err, ap, ◌∙◌}
+use Rattle.std.proofs.Common.{◌≡◌, length, replicate, None, Ok, Err, ap, ◌∙◌}
 use Rattle.contents.specs.Faults.{told}
 use Rattle.contents.specs.Setups.{setup, meaning}
+use Rattle.contents.proofs.Found.{none_cloned}
 use Rattle.contents.proofs.Setups.{setup_laws}
 use Rattle.audit.specs.Pairs.{comparison}
 use Rattle.audit.specs.declared.fault.AuditFault.TheVariants.{First, Second}
@@ -10,28 +11,28 @@ use Rattle.audit.proofs.two.audit_two.Goals as goal
 pub same_map-same-requires : goal.same_map-same-requires
 same_map-same-requires g c =
     let x = setup g.K.Key.kind g.V.Value.kind in
-    let s = meaning g.S.Store.count g.S.Store.protected g.S.Store.shown g.S.Store.kept c.args.first.now in
-    let t = meaning g.T.Store.count g.T.Store.protected g.T.Store.shown g.T.Store.kept c.args.second.now in
+    let s = meaning g.S.Store c.args.first.now in
+    let t = meaning g.T.Store c.args.second.now in
     record {
       held = (
-        c.in-Ok.field-0-1,
-        stored x s c.args.first_cells.now c.args.work.now (c.in-Ok.count, c.in-Ok.field-0-1) c.examine.new.cells c.examine.new.work c.in-Ok.ensures,
+        c.in-Ok.found.1,
+        stored x s c.args.first_cells.now c.args.work.now c.in-Ok.found c.examine.new.cells c.examine.new.work c.in-Ok.ensures,
       );
       other_held = stored x t c.args.second_cells.now c.examine.new.work (c.in-Ok-examine.other_count, c.in-Ok-examine.other_seed)
-          c.examine-in-Ok.new.cells c.examine-in-Ok.new.work c.in-Ok-examine.ensures;
+          c.examine-2.new.cells c.examine-2.new.work c.in-Ok-examine.ensures;
     }
 
 pub returns-in-Err : goal.returns-in-Err
 returns-in-Err g c =
     let x = setup g.K.Key.kind g.V.Value.kind in
-    let s = meaning g.S.Store.count g.S.Store.protected g.S.Store.shown g.S.Store.kept c.args.first.now in
-    let t = meaning g.T.Store.count g.T.Store.protected g.T.Store.shown g.T.Store.kept c.args.second.now in
+    let s = meaning g.S.Store c.args.first.now in
+    let t = meaning g.T.Store c.args.second.now in
     let cells = c.args.first_cells.now in
     let other = c.args.second_cells.now in
     let work = c.args.work.now in
     let w = (setup_laws g.K.Key.kind g.V.Value.kind g.met.K.Key.lawful g.met.V.Value.lawful).written in
-    let f = told g.S.Fault.BlockFault.number g.S.Fault.BlockFault.block c.in-Err.fault in
-    let r = comparison g.S.Fault.BlockFault.number g.S.Fault.BlockFault.block g.T.Fault.BlockFault.number g.T.Fault.BlockFault.block (Err (First c.in-Err.fault))
+    let f = told g.S.Fault.BlockFault c.in-Err.fault in
+    let r = comparison g.S.Fault.BlockFault g.T.Fault.BlockFault (Err (First c.in-Err.fault))
     c.examine.new.cells other c.examine.new.work in
     let both = first_refused x s t cells other work f c.examine.new.cells c.examine.new.work c.in-Err.ensures in
     record {
@@ -43,17 +44,18 @@ returns-in-Err g c =
 pub returns-in-Err-examine : goal.returns-in-Err-examine
 returns-in-Err-examine g c =
     let x = setup g.K.Key.kind g.V.Value.kind in
-    let s = meaning g.S.Store.count g.S.Store.protected g.S.Store.shown g.S.Store.kept c.args.first.now in
-    let t = meaning g.T.Store.count g.T.Store.protected g.T.Store.shown g.T.Store.kept c.args.second.now in
+    let s = meaning g.S.Store c.args.first.now in
+    let t = meaning g.T.Store c.args.second.now in
     let cells = c.args.first_cells.now in
     let other = c.args.second_cells.now in
     let work = c.args.work.now in
     let w = (setup_laws g.K.Key.kind g.V.Value.kind g.met.K.Key.lawful g.met.V.Value.lawful).written in
-    let f = told g.T.Fault.BlockFault.number g.T.Fault.BlockFault.block c.in-Err-examine.fault in
-    let r = comparison g.S.Fault.BlockFault.number g.S.Fault.BlockFault.block g.T.Fault.BlockFault.number g.T.Fault.BlockFault.block (Err (Second c.in-Err-examine.fault))
-    c.clear.new.cells c.examine-in-Ok.new.cells c.examine-in-Ok.new.work in
-    let both = second_refused x s t cells other work (c.in-Ok.count, c.in-Ok.field-0-1) c.examine.new.cells c.clear.new.cells c.examine.new.work c.in-Ok.ensures
-    (c.clear.ensures ∙ ap (λ n. replicate n None) c.examine.auto.cells) f c.examine-in-Ok.new.cells c.examine-in-Ok.new.work c.in-Err-examine.ensures in
+    let f = told g.T.Fault.BlockFault c.in-Err-examine.fault in
+    let r = comparison g.S.Fault.BlockFault g.T.Fault.BlockFault (Err (Second c.in-Err-examine.fault))
+    c.fill-in-Err-examine.new.self c.examine-2.new.cells c.examine-2.new.work in
+    let empty : c.fill-in-Err-examine.new.self ≡ replicate (length c.examine.new.cells) None = c.fill-in-Err-examine.ensures.after (none_cloned _ (λ a e. e)) in
+    let both = second_refused x s t cells other work c.in-Ok.found c.examine.new.cells c.fill-in-Err-examine.new.self c.examine.new.work c.in-Ok.ensures
+    (empty ∙ ap (λ n. replicate n None) c.examine.auto.cells) f c.examine-2.new.cells c.examine-2.new.work c.in-Err-examine.ensures in
     record {
       audits = both;
       yes = yes_exactly x s t cells other work w r both;
@@ -63,18 +65,20 @@ returns-in-Err-examine g c =
 pub returns-in-Ok-examine : goal.returns-in-Ok-examine
 returns-in-Ok-examine g c =
     let x = setup g.K.Key.kind g.V.Value.kind in
-    let s = meaning g.S.Store.count g.S.Store.protected g.S.Store.shown g.S.Store.kept c.args.first.now in
-    let t = meaning g.T.Store.count g.T.Store.protected g.T.Store.shown g.T.Store.kept c.args.second.now in
+    let s = meaning g.S.Store c.args.first.now in
+    let t = meaning g.T.Store c.args.second.now in
     let cells = c.args.first_cells.now in
     let other = c.args.second_cells.now in
     let work = c.args.work.now in
     let w = (setup_laws g.K.Key.kind g.V.Value.kind g.met.K.Key.lawful g.met.V.Value.lawful).written in
-    let r = comparison g.S.Fault.BlockFault.number g.S.Fault.BlockFault.block g.T.Fault.BlockFault.number g.T.Fault.BlockFault.block (Ok c.same_map-same.result)
-    c.clear-in-Ok-examine.new.cells c.clear-in-Ok-examine-2.new.cells c.examine-in-Ok.new.work in
-    let both = both_read x s t cells other work (c.in-Ok.count, c.in-Ok.field-0-1) c.examine.new.cells c.clear-in-Ok-examine.new.cells c.examine.new.work c.in-Ok.ensures
-    (c.clear-in-Ok-examine.ensures ∙ ap (λ n. replicate n None) c.examine.auto.cells) w (c.in-Ok-examine.other_count, c.in-Ok-examine.other_seed)
-    c.examine-in-Ok.new.cells c.clear-in-Ok-examine-2.new.cells c.examine-in-Ok.new.work c.in-Ok-examine.ensures
-    (c.clear-in-Ok-examine-2.ensures ∙ ap (λ n. replicate n None) c.examine-in-Ok.auto.cells) c.same_map-same.result c.same_map-same.ensures in
+    let r = comparison g.S.Fault.BlockFault g.T.Fault.BlockFault (Ok c.same_map-same.result)
+    c.fill.new.self c.fill-in-Ok-examine.new.self c.examine-2.new.work in
+    let empty : c.fill.new.self ≡ replicate (length c.examine.new.cells) None = c.fill.ensures.after (none_cloned _ (λ a e. e)) in
+    let other_empty : c.fill-in-Ok-examine.new.self ≡ replicate (length c.examine-2.new.cells) None = c.fill-in-Ok-examine.ensures.after (none_cloned _ (λ a e. e)) in
+    let both = both_read x s t cells other work c.in-Ok.found c.examine.new.cells c.fill.new.self c.examine.new.work c.in-Ok.ensures
+    (empty ∙ ap (λ n. replicate n None) c.examine.auto.cells) w (c.in-Ok-examine.other_count, c.in-Ok-examine.other_seed)
+    c.examine-2.new.cells c.fill-in-Ok-examine.new.self c.examine-2.new.work c.in-Ok-examine.ensures
+    (other_empty ∙ ap (λ n. replicate n None) c.examine-2.auto.cells) c.same_map-same.result c.same_map-same.ensures in
     record {
       audits = both;
       yes = yes_exactly x s t cells other work w r both;

@@ -1,17 +1,29 @@
-use Rattle.std.proofs.Common.{length, ap, ◌∙◌}
+use Rattle.std.proofs.Common.{length, Ok, Err, ap, ◌∙◌}
+use Rattle.std.proofs.lemmas.Result.{err_from_is_err_and}
+use Rattle.maps.specs.Maps.{kinds_of}
 use Rattle.model.specs.Refusals.{begin_refusal}
 use Rattle.contents.specs.Setups.{meaning}
-use Rattle.contents.proofs.Found.{finds, none_told}
+use Rattle.contents.proofs.Found.{refused_found, finds}
 use Rattle.contents.proofs.find.find_contents.Goals as goal
+
+pub returns-in_err-found : goal.returns-in_err-found
+returns-in_err-found g c =
+    let s = meaning g.S.Store c.args.store.now in
+    let cells = c.args.cells.now in
+    let work = c.args.work.now in
+    let free = c.in_ok-check_lengths.ensures ∙ ap (λ n. begin_refusal n (length cells) (length work)) c.count.ensures in
+    let told = c.in_err-found.ensures in
+    let p = err_from_is_err_and c.from_residual-in_err-found.result c.from_residual-in_err-found.ensures.1 in
+    finds g.K.Key.kind g.V.Value.kind g.S.Fault.BlockFault s cells c.read_store.new.cells work c.read_store.new.work
+    free told.work (g.S.Store.lengths c.args.store.now).of_shown c.from_residual-in_err-found.result
+    (refused_found (kinds_of g.K.Key.kind g.V.Value.kind) g.S.Fault.BlockFault s.shown (length cells) c.in_err-found.field-0.0
+    c.from_residual-in_err-found.result c.read_store.new.cells (p.1 ∙ ap Err p.2) told.answer told.cells)
 
 pub returns : goal.returns
 returns g c =
-    let number = g.S.Fault.BlockFault.number in
-    let block = g.S.Fault.BlockFault.block in
-    let s = meaning g.S.Store.count g.S.Store.protected g.S.Store.shown g.S.Store.kept c.args.store.now in
+    let s = meaning g.S.Store c.args.store.now in
     let cells = c.args.cells.now in
     let work = c.args.work.now in
-    let free = none_told number block c.size_refusal.result _ c.in_default.is
-    (c.size_refusal.ensures ∙ ap (λ n. begin_refusal n (length cells) (length work)) c.count.ensures) in
-    finds g.K.Key.kind g.V.Value.kind number block s cells c.read_contents.new.cells work c.read_contents.new.work
-    free c.read_contents.ensures.work (g.S.Store.lengths c.args.store.now).of_shown c.read_contents.result c.read_contents.ensures.found
+    let free = c.in_ok-check_lengths.ensures ∙ ap (λ n. begin_refusal n (length cells) (length work)) c.count.ensures in
+    finds g.K.Key.kind g.V.Value.kind g.S.Fault.BlockFault s cells c.read_store.new.cells work c.read_store.new.work
+    free c.in_ok-found.ensures.work (g.S.Store.lengths c.args.store.now).of_shown (Ok c.in_ok-found.found) c.in_ok-found.ensures.exact

@@ -1,15 +1,13 @@
-use Rattle.std.proofs.Common.{false, length, ap, ◌∙◌, arith}
+use Rattle.std.proofs.Common.{length, ap, ◌∙◌, arith}
 use Rattle.model.specs.Refusals.{start_refusal}
-use Rattle.register.specs.Worlds.{meaning}
-use Rattle.register.proofs.Openings.{none_told, started_step}
+use Rattle.contents.proofs.Found.{none_cloned}
+use Rattle.contents.specs.Setups.{meaning}
+use Rattle.register.proofs.Openings.{started_step}
 use Rattle.register.proofs.batch.opens.start.Goals as goal
 
 pub returns : goal.returns
 returns g c =
-    let number = g.S.Fault.BlockFault.number in
-    let block = g.S.Fault.BlockFault.block in
-    let d = meaning g.S.Store.count g.S.Store.protected g.S.Store.shown g.S.Store.kept in
-    let free = none_told number block c.start_refusal.result _ c.in_default.is
-    (c.start_refusal.ensures ∙ ap (λ n. start_refusal n (length c.args.cells.now)) c.count.ensures) in
-    started_step g.K.Key.kind g.V.Value.kind number block d c.args.closed c.args.cells.now c.clear.new.cells c.args.seed
-    c.kind_number.result c.kind_number-2.result (record { spent = false }) (omega arith) c.kind_number.ensures c.kind_number-2.ensures free c.clear.ensures
+    let d = g.S.Store in
+    let free = c.in_default.ensures ∙ ap (λ n. start_refusal n (length c.args.cells.now)) c.count.ensures in
+    started_step g.K.Key.kind g.V.Value.kind g.S.Fault.BlockFault d c.args.closed c.args.cells.now c.fill.new.self c.args.seed
+    c.open.result c.open.ensures.store c.open.ensures.batch (omega arith) free (c.fill.ensures.after (none_cloned _ (λ a e. e)))

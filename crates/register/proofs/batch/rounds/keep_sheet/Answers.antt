@@ -1,15 +1,15 @@
 use Rattle.std.proofs.Common.{[], ◌∷◌, refl}
 use Rattle.register.proofs.batch.rounds.keep_sheet.Goals as goal
 
-pub returns-in-Refused : goal.returns-in-Refused
-returns-in-Refused g c = record { events = _ ∷ []; run = (c.in-Refused.ensures, tt); ends = refl }
+pub returns-in-Err : goal.returns-in-Err
+returns-in-Err g c = record { events = _ ∷ []; run = (c.in-Err.ensures, tt); ends = refl }
 
-pub returns-in-Sealed : goal.returns-in-Sealed
-returns-in-Sealed g c = record { events = _ ∷ (_ ∷ (_ ∷ [])); run = (c.in-Opened.ensures, (c.enter.ensures, (c.in-Sealed.ensures.step, tt))); ends = refl }
+pub returns-in-Ok-seal : goal.returns-in-Ok-seal
+returns-in-Ok-seal g c = record { events = _ ∷ (_ ∷ (_ ∷ [])); run = (c.in-Ok.ensures, (c.enter.ensures, (c.in-Ok-seal.ensures.step, tt))); ends = refl }
 
-pub returns-in-Refused-seal : goal.returns-in-Refused-seal
-returns-in-Refused-seal g c = record {
+pub returns-in-Err-seal : goal.returns-in-Err-seal
+returns-in-Err-seal g c = record {
   events = _ ∷ (_ ∷ (_ ∷ (_ ∷ [])));
-  run = (c.in-Opened.ensures, (c.enter.ensures, (c.in-Refused-seal.ensures.step, (c.abandon.ensures, tt))));
+  run = (c.in-Ok.ensures, (c.enter.ensures, (c.in-Err-seal.ensures.step, (c.abandon.ensures, tt))));
   ends = refl;
 }
