@@ -53,34 +53,26 @@ fn a_record_is_written_and_read_back(rt: HostRuntime) -> Result<(), Fail> {
     let mut bytes = [0u8; 9];
     assert!(rt; record.write(&mut bytes, 4).is_err());
     assert_eq!(rt; bytes, [0u8; 9]);
-    match record.write(&mut bytes, 2) {
-        Ok(end) => assert_eq!(rt; end, 8),
-        Err(_) => return Err(Fail::new("the record fits")),
-    }
+    let end = record
+        .write(&mut bytes, 2)
+        .map_err(|_| Fail::new("the record fits"))?;
+    assert_eq!(rt; end, 8);
     assert_eq!(rt; bytes, [0, 0, 1, 2, 3, 4, 5, 6, 0]);
-    assert!(rt; Record::<StaffNumber, Papers>::read(&bytes[0..5]).is_err());
-    match Record::<StaffNumber, Papers>::read(&bytes[2..9]) {
-        Ok(read) => {
-            let (back, len) = read;
-            assert_eq!(rt; back.key.number(), 0x0102_0304);
-            assert_eq!(rt; back.value.bits(), 0x0506);
-            assert_eq!(rt; len, 6);
-            Ok(())
-        }
-        Err(_) => Err(Fail::new("a record stands there")),
-    }
+    assert!(rt; Record::<StaffNumber, Papers>::read(&bytes[..5]).is_err());
+    let (back, len) = Record::<StaffNumber, Papers>::read(&bytes[2..]).map_err(|_| Fail::new(
+        "a record stands there",
+    ))?;
+    assert_eq!(rt; back.key.number(), 0x0102_0304);
+    assert_eq!(rt; back.value.bits(), 0x0506);
+    assert_eq!(rt; len, 6);
+    Ok(())
 }
 
 #[test]
 fn hours_are_read_week_first(rt: HostRuntime) -> Result<(), Fail> {
-    match Hours::read(&[1, 2, 3, 4, 5]) {
-        Ok(read) => {
-            let (hours, len) = read;
-            assert_eq!(rt; hours.week(), 0x0102);
-            assert_eq!(rt; hours.quarters(), 0x0304);
-            assert_eq!(rt; len, 4);
-            Ok(())
-        }
-        Err(_) => Err(Fail::new("hours stand there")),
-    }
+    let (hours, len) = Hours::read(&[1, 2, 3, 4, 5]).map_err(|_| Fail::new("hours stand there"))?;
+    assert_eq!(rt; hours.week(), 0x0102);
+    assert_eq!(rt; hours.quarters(), 0x0304);
+    assert_eq!(rt; len, 4);
+    Ok(())
 }

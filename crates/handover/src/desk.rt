@@ -12,15 +12,17 @@ use register::batch::ends::abandon;
 use register::batch::enters::{enter, list};
 use register::batch::opens::{begin, start};
 use register::batch::seals::seal;
-use register::batch::{Closed, Open, Opening, Token};
+use register::batch::{Closed, Open, Token};
+use register::fault::RegisterFault;
 use std::alloc::{AllocError, Global};
+use store::fault::BlockFault;
 use store::store::Store;
 
 const CELLS: usize = 1024;
 
 const SEED: u32 = 0;
 
-// The command that a line asks for; a seal is none.
+// The command that a line asks for; a seal is none. No `From`, since both types are of other crates; `reply_of` likewise.
 pub fn command_of(line: Line) -> Option<Command<u32, Papers>>
     ensures { line_of result ≡ line }
 {
@@ -45,10 +47,10 @@ pub fn reply_of(answer: Answer<Papers>) -> Reply
     }
 }
 
-// What a seal leaves, with the line to print: a batch that goes on, or the closed register where none could be begun.
-pub enum Turn<S: Store> {
-    Goes(Open<S>, Token, Reply),
-    Ends(Closed<S>, Reply),
+// An open batch, with the token that its end spends.
+pub struct Batch<S> {
+    open: Open<S>,
+    token: Token,
 }
 
 #[derive(Drop)]
@@ -68,62 +70,62 @@ impl Desk {
         })
     }
 
-    pub fn start<S: Store>(&mut self, closed: Closed<S>) -> Opening<S> {
-        start::<S, StaffNumber, Papers>(closed, SEED, self.cells.as_mut_slice())
+    // Refused, the closed register comes back with the fault.
+    pub fn start<S: Store>(
+        &mut self,
+        closed: Closed<S>,
+    ) -> Result<Batch<S>, (Closed<S>, RegisterFault<S::Fault>)> {
+        let (open, token) = start::<S, StaffNumber, Papers>(closed, SEED, &mut self.cells)?;
+        Ok(Batch { open, token })
     }
 
     // Answers a sheet. Since only the register writes the cells, none is refused.
     pub fn enter<S: Store>(
         &mut self,
-        batch: &mut Open<S>,
+        batch: &mut Batch<S>,
         sheet: &[Command<u32, Papers>],
         answers: &mut [Answer<Papers>],
-    ) -> Result<(), u8> {
-        let cells = self.cells.as_mut_slice();
-        let scratch = self.scratch.as_mut_slice();
-        match enter::<S, StaffNumber, Papers>(batch, cells, scratch, sheet, answers) {
-            Ok(()) => Ok(()),
-            Err(fault) => Err(fault.number()),
-        }
+    ) -> Result<(), RegisterFault<S::Fault>> {
+        enter::<S, StaffNumber, Papers>(
+            &mut batch.open,
+            &mut self.cells,
+            &mut self.scratch,
+            sheet,
+            answers,
+        )
     }
 
-    // Seals and begins again on what was sealed; where the seal is refused, the batch goes on. The scratch takes the list, whose count is printed.
-    pub fn seal<S: Store>(&mut self, batch: Open<S>, token: Token) -> Turn<S> {
-        let count = match list::<S, StaffNumber, Papers>(
-            &batch,
-            self.cells.as_slice(),
-            self.scratch.as_mut_slice(),
-        ) {
+    // Seals and begins again on what was sealed; where the seal is refused, the batch goes on. The scratch takes the list,
+    // whose count is printed. Gives the batch, or the closed register where none could be begun, and the line to print.
+    pub fn seal<S: Store>(&mut self, batch: Batch<S>) -> (Result<Batch<S>, Closed<S>>, Reply) {
+        let Batch { open, token } = batch;
+        let count = match list::<S, StaffNumber, Papers>(&open, &self.cells, &mut self.scratch) {
             Ok(count) => count,
-            Err(fault) => return Turn::Goes(batch, token, Reply::Refused(fault.number())),
+            Err(fault) => return (Ok(Batch { open, token }), Reply::Refused(fault.number())),
         };
-        match seal::<S, StaffNumber, Papers>(
-            batch,
-            token,
-            self.cells.as_mut_slice(),
-            self.work.as_mut_slice(),
-        ) {
+        match seal::<S, StaffNumber, Papers>(open, token, &mut self.cells, &mut self.work) {
             Ok(closed) => self.begin(closed, Reply::Sealed(count)),
-            Err((batch, token, fault)) => Turn::Goes(
-                batch,
-                token,
+            Err((open, token, fault)) => (
+                Ok(Batch { open, token }),
                 Reply::Refused(fault.number()),
             ),
         }
     }
 
-    fn begin<S: Store>(&mut self, closed: Closed<S>, reply: Reply) -> Turn<S> {
-        match begin::<S, StaffNumber, Papers>(
-            closed,
-            self.cells.as_mut_slice(),
-            self.work.as_mut_slice(),
-        ) {
-            Ok((batch, token)) => Turn::Goes(batch, token, reply),
-            Err((closed, fault)) => Turn::Ends(closed, Reply::Refused(fault.number())),
+    // Prints the reply where a batch is begun.
+    fn begin<S: Store>(
+        &mut self,
+        closed: Closed<S>,
+        reply: Reply,
+    ) -> (Result<Batch<S>, Closed<S>>, Reply) {
+        match begin::<S, StaffNumber, Papers>(closed, &mut self.cells, &mut self.work) {
+            Ok((open, token)) => (Ok(Batch { open, token }), reply),
+            Err((closed, fault)) => (Err(closed), Reply::Refused(fault.number())),
         }
     }
 
-    pub fn abandon<S: Store>(&mut self, batch: Open<S>, token: Token) -> Closed<S> {
-        abandon::<S, StaffNumber, Papers>(batch, token, self.cells.as_mut_slice())
+    pub fn abandon<S: Store>(&mut self, batch: Batch<S>) -> Closed<S> {
+        let Batch { open, token } = batch;
+        abandon::<S, StaffNumber, Papers>(open, token, &mut self.cells)
     }
 }

@@ -1,16 +1,17 @@
 // Reads lines from the standard input, and answers each with a line. Commands are entered in sheets, and `=` seals.
 #![tactic(auto)]
 
-ghost use Rattle.std.specs.Prelude.{◌<◌, length, IfSome, IfOk};
+ghost use Rattle.lines.specs.Lines.{unread};
+ghost use Rattle.std.specs.Prelude.{◌<◌, length, IfOk, IsTrue};
 
 mod desk;
 
-use desk::{Desk, Turn, command_of, reply_of};
-use lines::input::{parse, split_line};
+use desk::{Batch, Desk, command_of, reply_of};
+use lines::input::{Lines, parse};
 use lines::output::Reply;
 use maps::{Answer, Command};
 use numbers::papers::Papers;
-use register::batch::{Closed, Open, Token};
+use register::batch::Closed;
 use std::io::Read;
 use store::fault::BlockFault;
 use store::plain::PlainStore;
@@ -31,93 +32,83 @@ fn read_input(rt: &HostRuntime) -> anyhow::Result<Vec<u8>> {
     Ok(input)
 }
 
+fn print_reply(rt: &HostRuntime, reply: Reply) -> anyhow::Result<()> {
+    println!(rt; "{reply}")?;
+    Ok(())
+}
+
 // Enters the gathered commands, prints a line for each, and empties the sheet.
 fn answer_sheet<S: Store>(
     rt: &HostRuntime,
     desk: &mut Desk,
-    batch: &mut Open<S>,
+    batch: &mut Batch<S>,
     sheet: &mut Vec<Command<u32, Papers>>,
 ) -> anyhow::Result<()> {
     let mut answers = vec![in rt.alloc(); Answer::Absent; sheet.len()]?;
-    let entered = desk.enter(batch, sheet.as_slice(), answers.as_mut_slice());
-    for answer in answers.as_slice() {
-        let reply = match entered {
+    let entered = desk.enter(batch, sheet, &mut answers);
+    for answer in &answers {
+        let reply = match &entered {
             Ok(()) => reply_of(*answer),
-            Err(number) => Reply::Refused(number),
+            Err(fault) => Reply::Refused(fault.number()),
         };
-        println!(rt; "{reply}")?;
+        print_reply(rt, reply)?;
     }
     sheet.clear();
     Ok(())
 }
 
-// Answers all lines before the next seal, and gives what is left behind it; nothing where no seal comes.
+// Answers all lines before the next seal, and tells whether one came.
 fn answer_batch<'a, S: Store>(
     rt: &HostRuntime,
     desk: &mut Desk,
-    batch: &mut Open<S>,
-    input: &'a [u8],
-) -> anyhow::Result<Option<&'a [u8]>>
-    ensures { IfOk result (λ found. IfSome found (λ rest. length rest.now < length input.now)) }
+    batch: &mut Batch<S>,
+    lines: &mut Lines<'a>,
+) -> anyhow::Result<bool>
+    ensures { IfOk result (λ sealed. IsTrue sealed → length (unread lines.new) < length (unread lines.old)) }
 {
     let mut sheet = Vec::new(rt.alloc());
-    let mut left = input;
-    while let Some((line, rest)) = split_line(left) {
-        match parse(line) {
-            Ok(line) => match command_of(line) {
-                Some(command) => {
-                    if sheet.len() == SHEET_LIMIT {
-                        answer_sheet(rt, desk, batch, &mut sheet)?;
-                    }
-                    sheet.push(command)?;
-                }
-                None => {
-                    answer_sheet(rt, desk, batch, &mut sheet)?;
-                    return Ok(Some(rest));
-                }
-            },
-            Err(_) => {
-                answer_sheet(rt, desk, batch, &mut sheet)?;
-                println!(rt; "{}", Reply::Bad)?;
-            }
+    while let Some(line) = lines.next() {
+        let Ok(line) = parse(line) else {
+            answer_sheet(rt, desk, batch, &mut sheet)?;
+            print_reply(rt, Reply::Bad)?;
+            continue;
+        };
+        let Some(command) = command_of(line) else {
+            answer_sheet(rt, desk, batch, &mut sheet)?;
+            return Ok(true);
+        };
+        if sheet.len() == SHEET_LIMIT {
+            answer_sheet(rt, desk, batch, &mut sheet)?;
         }
-        left = rest;
+        sheet.push(command)?;
     }
     answer_sheet(rt, desk, batch, &mut sheet)?;
-    Ok(None)
-}
-
-fn print_reply(rt: &HostRuntime, reply: Reply) -> anyhow::Result<()> {
-    println!(rt; "{reply}")?;
-    Ok(())
+    Ok(false)
 }
 
 // Answers all lines, from seal to seal. Whatever ends this, the last batch is abandoned first.
 fn answer_all<S: Store + Drop>(
     rt: &HostRuntime,
     desk: &mut Desk,
-    first: Open<S>,
-    first_token: Token,
+    first: Batch<S>,
     input: &[u8],
 ) -> (Closed<S>, anyhow::Result<()>) {
     let mut batch = first;
-    let mut token = first_token;
-    let mut left = input;
+    let mut lines = Lines::new(input);
     loop {
-        match answer_batch(rt, desk, &mut batch, left) {
-            Ok(Some(rest)) => match desk.seal(batch, token) {
-                Turn::Goes(next, next_token, reply) => {
-                    batch = next;
-                    token = next_token;
-                    left = rest;
-                    if let Err(error) = print_reply(rt, reply) {
-                        return (desk.abandon(batch, token), Err(error));
-                    }
-                }
-                Turn::Ends(closed, reply) => return (closed, print_reply(rt, reply)),
-            },
-            Ok(None) => return (desk.abandon(batch, token), Ok(())),
-            Err(error) => return (desk.abandon(batch, token), Err(error)),
+        match answer_batch(rt, desk, &mut batch, &mut lines) {
+            Ok(true) => {}
+            Ok(false) => return (desk.abandon(batch), Ok(())),
+            Err(error) => return (desk.abandon(batch), Err(error)),
+        }
+        let (left, reply) = desk.seal(batch);
+        let printed = print_reply(rt, reply);
+        batch = match left {
+            Ok(next) => next,
+            Err(closed) => return (closed, printed),
+        };
+        if let Err(error) = printed {
+            return (desk.abandon(batch), Err(error));
         }
     }
 }
@@ -129,11 +120,8 @@ fn serve<S: Store + Drop>(
     desk: &mut Desk,
 ) -> anyhow::Result<()> {
     let (closed, result) = match desk.start(closed) {
-        Ok((batch, token)) => answer_all(rt, desk, batch, token, input),
-        Err((closed, fault)) => (
-            closed,
-            print_reply(rt, Reply::Refused(fault.number())),
-        ),
+        Ok(batch) => answer_all(rt, desk, batch, input),
+        Err((closed, fault)) => (closed, print_reply(rt, Reply::Refused(fault.number()))),
     };
     let _ = closed.into_store();
     result
@@ -143,6 +131,6 @@ fn main(rt: HostRuntime) -> anyhow::Result<()> {
     let input = read_input(&rt)?;
     let mut bytes = vec![in rt.alloc(); 0; STORE_BYTES]?;
     let mut desk = Desk::new(rt.alloc(), STORE_BYTES)?;
-    let store = PlainStore::new(bytes.as_mut_slice(), false);
-    serve(&rt, Closed::new(store), input.as_slice(), &mut desk)
+    let store = PlainStore::new(&mut bytes, false);
+    serve(&rt, Closed::new(store), &input, &mut desk)
 }

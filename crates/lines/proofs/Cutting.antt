@@ -1,6 +1,6 @@
 -- A line is cut off at its byte 10, or at the end.
-use Rattle.std.proofs.Common.{◌≡◌, ℕ, ◌+◌, ◌-◌, ◌<◌, List, ◌∷◌, length, take, drop, Some, None, Option, sym, refl, ap, ◌∙◌, subst, ap₂, inl, inr, ⊎_elim, arith, length-append}
-use Rattle.std.proofs.lemmas.List.{take_rest, drop_all}
+use Rattle.std.proofs.Common.{◌≡◌, ℕ, ◌+◌, ◌-◌, ◌<◌, List, [], ◌∷◌, length, take, drop, Some, None, Option, sym, refl, ap, ◌∙◌, subst, inl, inr, ⊎_elim, arith, length-append}
+use Rattle.std.proofs.lemmas.List.{take_rest}
 use Rattle.lines.specs.Input.{first_place, cut_at, cut}
 use Rattle.lines.specs.Laws.{Cuts}
 use Rattle.lines.proofs.Places.{split_at, none_at}
@@ -15,16 +15,11 @@ cuts bs line rest e =
     subst (λ (p : List ℕ × List ℕ). Cuts bs p.0 p.1) (sym e) (cuts_by bs (first_place 10 bs) refl)
 
 -- with the parts as the program cuts them
-pub cut_found : (bs : List ℕ) (i : ℕ) → Some i ≡ first_place 10 bs → (take (i - 0) bs, take (length bs - (i + 1)) (drop (i + 1) bs)) ≡ cut bs
-cut_found bs i e =
-    let n : i - 0 ≡ i = omega arith in
-    ap₂ (λ x y. (x, y)) (ap (λ k. take k bs) n) (take_rest bs (i + 1)) ∙ ap (cut_at bs) e
+pub cut_found : (bs : List ℕ) (i : ℕ) → Some i ≡ first_place 10 bs → (take i bs, take (length bs - (i + 1)) (drop (i + 1) bs)) ≡ cut bs
+cut_found bs i e = ap (λ y. (take i bs, y)) (take_rest bs (i + 1)) ∙ ap (cut_at bs) e
 
-pub cut_none : (bs : List ℕ) → None ≡ first_place 10 bs → (bs, take (length bs - length bs) (drop (length bs) bs)) ≡ cut bs
-cut_none bs e = ap (λ y. (bs, y)) (take_rest bs (length bs) ∙ drop_all (length bs) bs (omega arith)) ∙ ap (cut_at bs) e
-
-pub place_within : (bs : List ℕ) (i : ℕ) → Some i ≡ first_place 10 bs → i < length bs
-place_within bs i e = (split_at 10 bs i (sym e)).within
+pub cut_none : (bs : List ℕ) → None ≡ first_place 10 bs → (bs, []) ≡ cut bs
+cut_none bs e = ap (cut_at bs) e
 
 -- what is left is shorter
 pub rest_shorter : (bs line rest : List ℕ) → 0 < length bs → Cuts bs line rest → length rest < length bs

@@ -1,5 +1,5 @@
 -- A line is read as what it is.
-use Rattle.std.proofs.Common.{◌≡◌, ℕ, suc, ◌+◌, ◌-◌, ◌^◌, ◌<◌, ◌≤◌, false, eqb, List, [], ◌∷◌, ◌++◌, length, get_or, take, drop, Some, None, Ok, Err, decimal, Option, Result, sym, refl, ap, ◌∙◌, subst, ap₂, inl, inr, arith}
+use Rattle.std.proofs.Common.{◌≡◌, ℕ, suc, ◌+◌, ◌-◌, ◌^◌, ◌≤◌, false, eqb, List, [], ◌∷◌, ◌++◌, length, get_or, take, drop, Some, None, decimal, Option, Result, sym, refl, ap, ◌∙◌, subst, ap₂, inl, inr, arith}
 use Rattle.std.proofs.lemmas.List.{take_at, take_rest}
 use Rattle.std.proofs.lemmas.Bool.{cases_Bool, cond-true, cond-false, eqb-true, eq-eqb, ne_eqb}
 use Rattle.lines.specs.Input.{first_place, key_in, value_in, with_key, with_both, put_at, put_in, seal_in, line_in, or_bad}
@@ -9,15 +9,6 @@ use Rattle.lines.specs.declared.input.Line.{Line}
 use Rattle.lines.specs.declared.input.Line.TheVariants.{Put, Drop, Get, Seal}
 use Rattle.lines.proofs.Numbers.{number_writes, writes_number, decimal_writes, digits_no_blank}
 use Rattle.lines.proofs.Places.{split_at, place_behind}
-
--- what an answer says of what was read
-pub read_ok : {A : Type 0} (o : Option A) (x : A) → Ok x ≡ or_bad o → o ≡ Some x
-read_ok (Some y) x e = cc
-read_ok None x e = absurd (let z : ◌≡◌ {A = ℕ} 0 1 = cc in omega arith)
-
-pub read_err : {A : Type 0} (o : Option A) (e : BadLine) → Err e ≡ or_bad o → o ≡ None
-read_err (Some y) e h = absurd (let z : ◌≡◌ {A = ℕ} 0 1 = cc in omega arith)
-read_err None e h = refl
 
 -- the command character says how the rest is read
 module _ (c : ℕ) (bs : List ℕ) where
@@ -36,40 +27,10 @@ module _ (c : ℕ) (bs : List ℕ) where
       cond-false (eqb c 43) _ _ (ne_eqb c 43 (λ f. omega arith)) ∙ cond-false (eqb c 45) _ _ (ne_eqb c 45 (λ f. omega arith)) ∙ cond-false (eqb c 63) _ _ (ne_eqb c 63 (λ f. omega arith))
       ∙ cond-true (eqb c 61) _ _ (eq-eqb c 61 e)
 
--- the same of bytes of which the first is known, with the rest as the program's match gives it
-abbrev pub rest_of : List ℕ → List ℕ
-rest_of bs = take (length bs - 1) (drop 1 bs)
-
-pub plus_rest : (bs : List ℕ) → 1 ≤ length bs → get_or bs 0 0 ≡ 43 → line_in bs ≡ put_in (rest_of bs)
+-- with the rest of the bytes as the program's match gives it
+pub plus_rest : (bs : List ℕ) → 1 ≤ length bs → get_or bs 0 0 ≡ 43 → line_in bs ≡ put_in (take (length bs - 1) (drop 1 bs))
 plus_rest [] l e = absurd (omega arith)
 plus_rest (c ∷ bs) l e = plus_line c bs e ∙ ap put_in (sym (take_rest (c ∷ bs) 1))
-
-pub minus_rest : (bs : List ℕ) → 1 ≤ length bs → get_or bs 0 0 ≡ 45 → line_in bs ≡ with_key Drop (key_in (rest_of bs))
-minus_rest [] l e = absurd (omega arith)
-minus_rest (c ∷ bs) l e = minus_line c bs e ∙ ap (λ x. with_key Drop (key_in x)) (sym (take_rest (c ∷ bs) 1))
-
-pub ask_rest : (bs : List ℕ) → 1 ≤ length bs → get_or bs 0 0 ≡ 63 → line_in bs ≡ with_key Get (key_in (rest_of bs))
-ask_rest [] l e = absurd (omega arith)
-ask_rest (c ∷ bs) l e = ask_line c bs e ∙ ap (λ x. with_key Get (key_in x)) (sym (take_rest (c ∷ bs) 1))
-
-pub seal_rest : (bs : List ℕ) → 1 ≤ length bs → get_or bs 0 0 ≡ 61 → line_in bs ≡ seal_in (rest_of bs)
-seal_rest [] l e = absurd (omega arith)
-seal_rest (c ∷ bs) l e = seal_line c bs e ∙ ap seal_in (sym (take_rest (c ∷ bs) 1))
-
--- a key and a value on both sides of the first blank, with the parts as the program cuts them
-module _ (bs : List ℕ) (i : ℕ) (f : Some i ≡ first_place 32 bs) where
-  pub blank_within : i < length bs
-  blank_within = (split_at 32 bs i (sym f)).within
-
-  put_parts : put_in bs ≡ with_both (key_in (take (i - 0) (drop 0 bs))) (value_in (take (length bs - (i + 1)) (drop (i + 1) bs)))
-  put_parts =
-      let n : i - 0 ≡ i = omega arith in
-      ap (put_at bs) (sym f)
-      ∙ ap₂ (λ x y. with_both (key_in x) (value_in y)) (ap (λ k. take k bs) (sym n)) (sym (take_rest bs (i + 1)))
-
-  module _ (key : Option ℕ) (is_key : key_in (take (i - 0) (drop 0 bs)) ≡ key) (value : Option ℕ) (is-value : value_in (take (length bs - (i + 1)) (drop (i + 1) bs)) ≡ value) where
-    pub put_is : put_in bs ≡ with_both key value
-    put_is = put_parts ∙ ap₂ with_both is_key is-value
 
 with_key_from : (make : ℕ → Line) (o : Option ℕ) (l : Line) → with_key make o ≡ Some l → (k : ℕ) × (o ≡ Some k) × (make k ≡ l)
 with_key_from make (Some k) l e = (k, refl, cc)

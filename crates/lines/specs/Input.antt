@@ -1,18 +1,14 @@
 -- The lines that the program reads, byte by byte.
-use Rattle.std.specs.Prelude.{ℕ, suc, ◌+◌, ◌-◌, ◌*◌, ◌^◌, Bool, cond, ◌&&◌, List, [], ◌∷◌, length, take, drop, Some, None, Ok, Err, Option, Result, ◌==◌, nat_le, nat_lt}
-use Rattle.std.specs.List.{list_all}
+use Rattle.std.specs.Char.{is_ascii_digit}
+use Rattle.std.specs.Prelude.{ℕ, ◌+◌, ◌-◌, ◌*◌, ◌^◌, Bool, cond, ◌&&◌, List, [], ◌∷◌, length, take, drop, Some, None, Ok, Err, Option, Result, ◌==◌, nat_le, nat_lt}
+use Rattle.std.specs.List.{list_all, position}
 use Rattle.lines.specs.declared.input.BadLine.{BadLine}
 use Rattle.lines.specs.declared.input.Line.{Line}
 use Rattle.lines.specs.declared.input.Line.TheVariants.{Put, Drop, Get, Seal}
 
-abbrev pub one_more : Option ℕ → Option ℕ
-one_more (Some i) = Some (suc i)
-one_more None = None
-
 -- the place of the first byte b
 abbrev pub first_place : ℕ → List ℕ → Option ℕ
-first_place b [] = None
-first_place b (x ∷ xs) = cond (x == b) (Some 0) (one_more (first_place b xs))
+first_place b bs = position (λ x. x == b) bs
 
 -- a line up to its byte 10, or up to the end, and what is left behind it
 abbrev pub cut_at : List ℕ → Option ℕ → List ℕ × List ℕ
@@ -22,11 +18,10 @@ cut_at bs None = (bs, [])
 abbrev pub cut : List ℕ → List ℕ × List ℕ
 cut bs = cut_at bs (first_place 10 bs)
 
--- 48 is the digit 0
 abbrev pub is_digit : ℕ → Bool
-is_digit b = nat_le 48 b && nat_le b 57
+is_digit b = is_ascii_digit b
 
--- the number that digits write behind those of n
+-- the number that digits write behind those of n; 48 is the digit 0
 abbrev pub value_from : ℕ → List ℕ → ℕ
 value_from n [] = n
 value_from n (d ∷ ds) = value_from (10 * n + (d - 48)) ds

@@ -1,10 +1,12 @@
 // The lines that the program reads.
 ghost use Rattle.std.specs.Prelude.{◌≡◌, ℕ, ◌<◌, ◌≤◌, [], length, MatchOption};
-ghost use Rattle.lines.specs.Input.{first_place, cut, is_digit, number_in, key_in, put_in, seal_in, line_in, or_bad};
+ghost use Rattle.lines.specs.Input.{first_place, cut, number_in, key_in, put_in, line_in, or_bad};
+ghost use Rattle.lines.specs.Lines.{GivesLine, unread};
+ghost use Rattle.std.specs.Iterator.{at_most};
 ghost use Rattle.lines.specs.Laws.{Cuts, Tells, ReadsBack};
 
 // A command, with the key and the value as they stand in the line, or the seal of all before it.
-#[derive(Clone, Copy)]
+#[derive(Clone, Copy, Debug, PartialEq, Eq)]
 pub enum Line {
     Put(u32, u16),
     Drop(u32),
@@ -13,19 +15,14 @@ pub enum Line {
 }
 
 // The bytes are no such line.
-#[derive(Clone, Copy)]
+#[derive(Clone, Copy, Debug, PartialEq, Eq)]
 pub struct BadLine;
 
 // The place of the first `wanted` among the bytes.
 fn position(bytes: &[u8], wanted: u8) -> Option<usize>
     ensures { result ≡ first_place wanted bytes.now }
 {
-    for (i, b) in bytes.iter().enumerate() {
-        if *b == wanted {
-            return Some(i);
-        }
-    }
-    None
+    bytes.iter().position(|b| *b == wanted)
 }
 
 // The first line, and what is left behind it; nothing at the end of the input.
@@ -37,15 +34,37 @@ pub fn split_line(bytes: &[u8]) -> Option<(&[u8], &[u8])>
         return None;
     }
     match position(bytes, b'\n') {
-        Some(i) => Some((&bytes[0..i], &bytes[i + 1..])),
-        None => Some((bytes, &bytes[bytes.len()..])),
+        Some(i) => Some((&bytes[..i], &bytes[i + 1..])),
+        None => Some((bytes, &[])),
     }
 }
 
-fn is_digit(b: u8) -> bool
-    ensures { result ≡ is_digit b }
-{
-    b'0' <= b && b <= b'9'
+// The lines of a text, from the first on, each as `split_line` cuts it off.
+#[derive(Drop)]
+pub struct Lines<'a> {
+    left: &'a [u8],
+}
+
+impl<'a> Lines<'a> {
+    pub fn new(text: &'a [u8]) -> Lines<'a>
+        ensures { unread result ≡ text.now }
+    {
+        Lines { left: text }
+    }
+}
+
+impl<'a> Iterator for Lines<'a> {
+    type Item = &'a [u8];
+
+    ghost next_gives = { GivesLine };
+
+    ghost remaining = { λ s. at_most (length (unread s)) };
+
+    fn next(&mut self) -> Option<&'a [u8]> {
+        let (line, rest) = split_line(self.left)?;
+        self.left = rest;
+        Some(line)
+    }
 }
 
 // The number that 1 to 10 digits write, below a limit of at most 2^32.
@@ -57,7 +76,7 @@ fn read_number(digits: &[u8], limit: u64) -> Result<u64, BadLine>
     }
     let mut value: u64 = 0;
     for d in digits {
-        if !is_digit(*d) {
+        if !d.is_ascii_digit() {
             return Err(BadLine);
         }
         value = 10 * value + u64::from(*d - b'0');
@@ -80,43 +99,24 @@ fn read_key(digits: &[u8]) -> Result<u32, BadLine>
 fn read_put(bytes: &[u8]) -> Result<Line, BadLine>
     ensures { result ≡ or_bad (put_in bytes.now) }
 {
-    let Some(i) = position(bytes, b' ') else {
-        return Err(BadLine);
-    };
-    let key = read_key(&bytes[0..i])?;
+    let i = position(bytes, b' ').ok_or(BadLine)?;
+    let key = read_key(&bytes[..i])?;
     let value = read_number(&bytes[i + 1..], 0x1_0000)?;
     Ok(Line::Put(key, value as u16))
 }
 
-// Nothing stands behind the character.
-fn read_seal(rest: &[u8]) -> Result<Line, BadLine>
-    ensures { result ≡ or_bad (seal_in rest.now) }
-{
-    if rest.is_empty() {
-        Ok(Line::Seal)
-    } else {
-        Err(BadLine)
-    }
-}
-
-// By the first character.
-fn read_line(line: &[u8]) -> Result<Line, BadLine>
-    ensures { result ≡ or_bad (line_in line.now) }
-{
-    match line {
-        [b'+', rest @ ..] => read_put(rest),
-        [b'-', rest @ ..] => Ok(Line::Drop(read_key(rest)?)),
-        [b'?', rest @ ..] => Ok(Line::Get(read_key(rest)?)),
-        [b'=', rest @ ..] => read_seal(rest),
-        _ => Err(BadLine),
-    }
-}
-
-// The line that the bytes are.
+// The line that the bytes are, by the first character.
+#[tactic(auto, using(crate::proofs::Parsing::reads_back))]
 pub fn parse(line: &[u8]) -> Result<Line, BadLine>
     ensures answer { result ≡ or_bad (line_in line.now) }
     ensures exact { Tells line.now result }
     ensures back { ReadsBack }
 {
-    read_line(line)
+    match line {
+        [b'+', rest @ ..] => read_put(rest),
+        [b'-', rest @ ..] => Ok(Line::Drop(read_key(rest)?)),
+        [b'?', rest @ ..] => Ok(Line::Get(read_key(rest)?)),
+        [b'='] => Ok(Line::Seal),
+        _ => Err(BadLine),
+    }
 }

@@ -3,16 +3,16 @@ use Rattle.std.proofs.lemmas.Bool.{eqb-false}
 use Rattle.lines.proofs.Numbers.{Reading, reading_more, no_digits, too_large, number_is}
 use Rattle.lines.proofs.input.read_number.Goals as goal
 
-pub returns-then-not-is_digit : goal.returns-then-not-is_digit
-returns-then-not-is_digit c =
-    no_digits c.args.digits.now c.args.limit c.loop-d.d-index c.loop-d.value c.loop-d.invariant c.loop-d-test.true (sym c.if-not-is_digit.ensures)
+pub returns-then-not-is_ascii_digit : goal.returns-then-not-is_ascii_digit
+returns-then-not-is_ascii_digit c =
+    no_digits c.args.digits.now c.args.limit c.loop-d.d-index c.loop-d.value c.loop-d.invariant c.loop-d-test.true (sym c.if-not-is_ascii_digit.ensures.value)
 
 pub loop-d-preserved : goal.loop-d-preserved
 loop-d-preserved c =
     let ds = c.args.digits.now in
     let i = c.loop-d.d-index in
     subst (λ d. Reading ds (i + 1) (10 * c.loop-d.value + d)) (sym c.from.ensures)
-    (reading_more ds i c.loop-d.value c.loop-d.invariant c.loop-d-test.true (sym c.if-not-is_digit.ensures))
+    (reading_more ds i c.loop-d.value c.loop-d.invariant c.loop-d-test.true (sym c.if-not-is_ascii_digit.ensures.value))
 
 pub returns-then-value-limit : goal.returns-then-value-limit
 returns-then-value-limit c =
