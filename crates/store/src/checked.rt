@@ -24,7 +24,7 @@ fn with_byte(s1: u16, s2: u16, x: u8) -> (u16, u16)
     (t1, t2)
 }
 
-// The two Fletcher sums of some bytes.
+// The two Fletcher sums of some bytes. A `fold` over the pair would be no plainer than this `for`.
 pub fn fletcher(bytes: &[u8]) -> [u8; 2]
     ensures { result ≡ sums bytes.now }
 {

@@ -29,6 +29,7 @@ impl BlockFault for StoreFault {
 
     ghost block = { fault_block };
 
+    // Numbers for refusals: a rule of the project.
     fn number(&self) -> u8 {
         match self {
             StoreFault::Range(_) => 13,

@@ -32,6 +32,7 @@ pub trait Store {
     fn read(&self, i: usize) -> Result<Block, Self::Fault>
         ensures { tells Self.Fault.BlockFault result ≡ read_answer (count self.now) (shown self.now) i };
 
+    // `Writes` of `Stores` says the same of a store elsewhere; it names this trait, so the trait itself can't cite it.
     fn write(&mut self, i: usize, block: &Block) -> Result<(), Self::Fault>
         ensures answer { tells Self.Fault.BlockFault result ≡ write_answer (count self.old) (protected self.old) i }
         ensures count { count self.new ≡ count self.old }

@@ -6,7 +6,8 @@ use arrayvec::ArrayVec;
 
 pub mod ops;
 
-// Up to four written blocks, the longest held first, and no block twice. They lie in the value itself, so there is no heap.
+// Up to four written blocks, the longest held first, and no block twice. They lie in the value itself, as a rule of
+// the project allows no heap; a plain inner struct is a rule too.
 #[derive(Drop)]
 pub struct Held {
     slots: ArrayVec<Slot, 4>,

@@ -19,7 +19,7 @@ use store::store::{Block, Store};
 pub type Stack<'a> = WriteBack<Mirror<Offset<PlainStore<'a>>, CheckedStore<'a>>>;
 
 // The stack over lent bytes: those of the plain store, of which it uses `wished` blocks from `first` on or as many as
-// there are, and those of the checked store.
+// there are, and those of the checked store. A struct of these would be made for this one call alone.
 pub fn stack<'a>(
     plain: &'a mut [u8],
     first: usize,
