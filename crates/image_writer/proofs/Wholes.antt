@@ -1,5 +1,5 @@
 -- from lent cells that are a layout to the image of the map
-use Rattle.std.proofs.Common.{◌≡◌, ℕ, zero, suc, ◌+◌, ◌-◌, ◌*◌, ◌/◌, ◌≤◌, List, [], ◌∷◌, ◌++◌, map, length, take, replicate, None, Option, sym, refl, ap, ◌∙◌, ap₂}
+use Rattle.std.proofs.Common.{◌≡◌, ℕ, arith, zero, suc, ◌+◌, ◌-◌, ◌*◌, ◌/◌, ◌≤◌, List, [], ◌∷◌, ◌++◌, map, length, take, replicate, None, Option, sym, refl, ap, ◌∙◌, ap₂}
 use Rattle.std.proofs.lemmas.List.FromFn.{length-map-range_with_len}
 use Rattle.std.proofs.lemmas.List.{take_at, length-map, map-append, append-nil}
 use Rattle.kinds.specs.Records.{written}
@@ -61,6 +61,10 @@ module _ {K Row V : Type 0} (x : Kinds K Row V) (laws : KindsLaws x) (seed count
 
   pub length_is : image_length x (contents seed m) ≡ 32 + capacity count / 8 + length (codes (code_of x) cells)
   length_is = body_length x laws (contents seed m) ∙ ap (λ n. 32 + capacity n / 8 + length (codes (code_of x) cells)) (sym w.counts)
+
+  -- what an image that has room takes of its store
+  pub takes : (k n : ℕ) → k ≡ capacity count → image_length x (contents seed m) ≤ n → 32 + k / 8 + length (codes (code_of x) (keyed_cells x (take k rows))) ≤ n
+  takes k n ek room = omega (arith, room, length_is, ap (λ y. y / 8) ek, ap (λ y. length (codes (code_of x) y)) (first_keyed k ek))
 
   -- header, bit map and codes, written one behind the other
   pub all_written : (n k p : ℕ) → k ≡ capacity count → p ≡ power count → image_length x (contents seed m) ≤ n
