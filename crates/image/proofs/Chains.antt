@@ -1,15 +1,8 @@
 -- chains of checks, each up to its first fault
-use Rattle.std.proofs.Common.{◌≡◌, ℕ, zero, suc, ◌+◌, ◌-◌, ◌<◌, ◌≤◌, Bool, true, false, cond, List, ◌∷◌, length, get_or, drop, replicate, Some, None, Ok, Err, Option, Result, refl, ap, ◌∙◌, arith}
+use Rattle.std.proofs.Common.{◌≡◌, ℕ, zero, suc, ◌+◌, ◌<◌, ◌≤◌, Bool, true, false, cond, List, ◌∷◌, length, get_or, drop, replicate, Some, None, Ok, Err, Option, Result, refl, ap, ◌∙◌, arith}
 use Rattle.std.proofs.lemmas.List.{drop_more, drop_all}
 use Rattle.image.specs.declared.fault.ImageFault.{ImageFault}
-use Rattle.image.specs.Bits.{one, ones}
 use Rattle.image.specs.Opened.{unless, then}
-
-pub ones_more : (t : ℕ → Bool) (i n : ℕ) → i < n → ones t i (n - i) ≡ one (t i) + ones t (i + 1) (n - (i + 1))
-ones_more t i n l = let e : n - i ≡ suc (n - (i + 1)) = omega arith in ap (ones t i) e
-
-pub ones_end : (t : ℕ → Bool) (i n : ℕ) → n ≤ i → ones t i (n - i) ≡ 0
-ones_end t i n l = let e : n - i ≡ 0 = omega arith in ap (ones t i) e
 
 ok_err : {A E : Type 0} (a : A) (f : E) → ◌≡◌ {A = Result A E} (Err f) (Ok a) → ⊥
 ok_err a f e = let z : ◌≡◌ {A = ℕ} 0 1 = cc in omega arith

@@ -5,7 +5,7 @@ ghost use Rattle.std.specs.Prelude.{◌≡◌};
 
 use store::fault::BlockFault;
 
-// `F` is the store's own fault, which is carried whole.
+// `F` is the store's own fault, which is carried whole. A fault's number and its place are told alike in every program, as a rule of the project asks.
 #[derive(Clone, Copy, Debug, PartialEq, Eq)]
 pub enum ImageFault<F> {
     // The store does not give its bytes.

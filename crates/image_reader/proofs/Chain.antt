@@ -1,6 +1,8 @@
 -- the checks one after the other: at each, what its fault makes of the whole, and what is known past it
-use Rattle.std.proofs.Common.{◌≡◌, ℕ, ◌+◌, ◌/◌, ◌^◌, ◌<◌, ◌≤◌, false, List, ◌++◌, map, length, get_or, drop, Ok, Err, Option, Result, sym, ap, ◌∙◌, subst, ap₂, arith}
+use Rattle.std.proofs.Common.{◌≡◌, ℕ, ◌+◌, ◌/◌, ◌^◌, ◌<◌, ◌≤◌, false, List, ◌++◌, map, length, get_or, take, drop, Ok, Err, Option, Result, sym, ap, ◌∙◌, subst, ap₂, arith, Fits, w8, length-take}
 use native.Mathlib.Nat.{pow-le-pow_right}
+use Rattle.std.proofs.lemmas.Result.{err_from_is_err_and}
+use Rattle.std.specs.Result.{IsErrAnd}
 use Rattle.std.proofs.lemmas.List.{length-map}
 use Rattle.std.proofs.lemmas.Bool.{and_parts, leb-true}
 use Rattle.kinds.specs.declared.record.Record.{Record as Rec}
@@ -30,14 +32,17 @@ place_err : {F R : Type 0} (w : Cells F R) (f : ImageFault F) → Err f ≡ plac
 place_err (Ok p) f h = absurd (let z : ◌≡◌ {A = ℕ} 0 1 = cc in omega arith)
 place_err (Err g) f h = let z : f ≡ g = cc in ap Err (sym z)
 
-module _ (F : Type 0) {K Row V : Type 0} (x : Kinds K Row V) (laws : KindsLaws x) (bs : List ℕ) (small : (i : ℕ) → get_or bs i 0 < 256) where
+module _ (F : Type 0) {K Row V : Type 0} (x : Kinds K Row V) (laws : KindsLaws x) (bs : List ℕ) (bytes : (i : ℕ) → Fits w8 (get_or bs i 0)) where
+  small : (i : ℕ) → get_or bs i 0 < 256
+  small i = omega (arith, bytes i)
+
   abbrev O : Result (Contents K V) (ImageFault F)
   O = opened x bs
 
   -- what a refusal answers, and that it says nothing of the cells
-  pub refused : (f : ImageFault F) → O ≡ Err f → (r : Result (ℕ × ℕ) (ImageFault F)) → (y : ImageFault F) × (r ≡ Err y) × (y ≡ f)
+  pub refused : (f : ImageFault F) → O ≡ Err f → (r : Result (ℕ × ℕ) (ImageFault F)) → IsErrAnd r (λ y. y ≡ f)
       → (old new : List (Option (Rec Row V))) → (r ≡ seed_and_count O) × Kept x O old new
-  refused f e r p old new = (p.1 ∙ ap Err p.2 ∙ sym (ap seed_and_count e), subst (λ o. Kept x o old new) (sym e) tt)
+  refused f e r q old new = let p = err_from_is_err_and r q in (p.1 ∙ ap Err p.2 ∙ sym (ap seed_and_count e), subst (λ o. Kept x o old new) (sym e) tt)
 
   pub at_header : (f : ImageFault F) → Err f ≡ header_check x bs → O ≡ Err f
   unfolding opened
@@ -48,12 +53,18 @@ module _ (F : Type 0) {K Row V : Type 0} (x : Kinds K Row V) (laws : KindsLaws x
     unfolding header_check
     rules i l = lowest_all (breaks x bs) 0 32 (unless_ok {F = F} Header _ u (sym h)) i (omega arith) (omega arith)
 
-    pub low_power : byte bs 3 ≤ 10
+    low_power : byte bs 3 ≤ 10
     low_power = omega (arith, (counts x bs small rules).1, (power_law (count_of bs)).1)
 
-    module _ (k : ℕ) (ek : k ≡ capacity_of bs) where
+    pub low : (p : ℕ) → p ≡ byte bs 3 → p ≤ 10
+    low p ep = omega (arith, ep, low_power)
+
+    module _ (p : ℕ) (ep : p ≡ byte bs 3) (k : ℕ) (kp : k ≡ 2 ^ p) where
+      ek : k ≡ capacity_of bs
+      ek = kp ∙ ap (λ y. 2 ^ y) ep
+
       pub low_capacity : k ≤ 1024
-      low_capacity = let m : 2 ^ byte bs 3 ≤ 2 ^ 10 = pow-le-pow_right {n = 2} (omega arith) {i = byte bs 3} {j = 10} low_power in omega arith
+      low_capacity = let m : 2 ^ byte bs 3 ≤ 2 ^ 10 = pow-le-pow_right {n = 2} (omega arith) {i = byte bs 3} {j = 10} low_power in omega (arith, m, ek)
 
       pub at_bits : (f : ImageFault F) → Err f ≡ bits_check bs k → O ≡ Err f
       unfolding opened
@@ -63,16 +74,26 @@ module _ (F : Type 0) {K Row V : Type 0} (x : Kinds K Row V) (laws : KindsLaws x
         b' : bits_check {F = F} bs (capacity_of bs) ≡ Ok v
         b' = sym (b ∙ ap (bits_check bs) ek)
 
-        pub inside : 32 + k / 8 ≤ length bs
+        inside : 32 + k / 8 ≤ length bs
         unfolding bits_check
         inside = leb-true _ _ (and_parts _ _ (cond_ok {E = ImageFault F} _ Bits v (sym b))).0
 
-        module _ (n : ℕ) (en : n ≡ k) where
+        -- the layout is the first of the 1024 cells
+        module _ (old : List (Option (Rec Row V))) (lent_cells : length old ≡ 1024) where
+          abbrev n : ℕ
+          n = length (take k old)
+
+          pub en : n ≡ k
+          en = omega (arith, low_capacity, lent_cells, length-take k old)
+
+          pub room : 32 + n / 8 ≤ length bs
+          room = omega (arith, ap (λ m. m / 8) en, inside)
+
           pub at_records : (f : ImageFault F) → Err f ≡ place_of (cells_in x bs n) → O ≡ Err f
           unfolding opened
           at_records f e = then_at _ _ _ (sym h) ∙ then_at _ _ _ b' ∙ then_at _ _ _ (place_err _ f (e ∙ ap (λ y. place_of (cells_in x bs y)) (en ∙ ek)))
 
-          module _ (e : ℕ) (w : Ok e ≡ place_of (cells_in x {F = F} bs n)) (old part : List (Option (Rec Row V))) (fl : Filled x (cells_in x {F = F} bs n) part) where
+          module _ (e : ℕ) (w : Ok e ≡ place_of (cells_in x {F = F} bs n)) (part : List (Option (Rec Row V))) (fl : Filled x (cells_in x {F = F} bs n) part) where
             abbrev read : (cs : List (Option (Rec K V))) × (cells_in x {F = F} bs (capacity_of bs) ≡ Ok (cs, e))
             read = place_ok _ e (w ∙ ap (λ y. place_of (cells_in x bs y)) (en ∙ ek))
 
@@ -109,11 +130,11 @@ module _ (F : Type 0) {K Row V : Type 0} (x : Kinds K Row V) (laws : KindsLaws x
                   all : Passed x laws bs small cs e
                   all = passed x laws bs small F u v l t cs e (sym h) b' read.1 q' (sym z)
 
-                  pub accepted : (n : ℕ) → n ≡ count_of bs → (Ok (s, n) ≡ seed_and_count O) × Kept x O old (part ++ drop k old)
-                  accepted n en =
+                  pub accepted : (c : ℕ) → c ≡ count_of bs → (Ok (s, c) ≡ seed_and_count O) × Kept x O old (part ++ drop k old)
+                  accepted c ec =
                       let m = found_count x laws bs small cs e all in
                       let cells : cells_of x (contents (seed_of bs) (records_of (record_order x) cs)) ≡ cs = found_cells x laws bs small cs e all in
                       let ck : k ≡ capacity (length (records_of (record_order x) cs)) = ek ∙ cap_is x laws bs small cs e all ∙ ap capacity (sym m) in (
-                        ap₂ (λ y c. Ok (y, c)) es (en ∙ sym m) ∙ sym (ap seed_and_count at_end),
+                        ap₂ (λ y d. Ok (y, d)) es (ec ∙ sym m) ∙ sym (ap seed_and_count at_end),
                         subst (λ o. Kept x o old (part ++ drop k old)) (sym at_end) (ap₂ (λ y j. y ++ drop j old) (first_cells ∙ ap (map (seen (lent x))) (sym cells)) ck),
                       )

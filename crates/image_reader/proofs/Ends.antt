@@ -1,5 +1,5 @@
 -- from what the reader answers to what the bytes are the image of
-use Rattle.std.proofs.Common.{◌≡◌, ℕ, ◌-◌, ◌<◌, ◌≤◌, true, false, List, ◌++◌, map, length, get_or, replicate, None, Ok, Err, Option, Result, sym, refl, ap, ◌∙◌, subst, arith, length-append}
+use Rattle.std.proofs.Common.{◌≡◌, ℕ, ◌-◌, ◌≤◌, true, false, List, ◌++◌, map, length, get_or, replicate, None, Ok, Err, Option, Result, sym, refl, ap, ◌∙◌, subst, arith, Fits, w8, length-append}
 use lib.ListN.{length-replicate}
 use Rattle.std.proofs.lemmas.Bool.{both_ways}
 use Rattle.std.specs.Result.{is_err}
@@ -22,7 +22,7 @@ unfolding image
 filling x bs h is =
     omega (arith, ap length is, length-append (body x h) (replicate (length bs - image_length x h) 0), length-replicate {A = ℕ} (length bs - image_length x h) 0)
 
-module _ (F : Type 0) {K Row V : Type 0} (x : Kinds K Row V) (laws : KindsLaws x) (bs : List ℕ) (small : (i : ℕ) → get_or bs i 0 < 256) where
+module _ (F : Type 0) {K Row V : Type 0} (x : Kinds K Row V) (laws : KindsLaws x) (bs : List ℕ) (bytes : (i : ℕ) → Fits w8 (get_or bs i 0)) where
   abbrev O : Result (Contents K V) (ImageFault F)
   O = opened x bs
 
@@ -32,7 +32,7 @@ module _ (F : Type 0) {K Row V : Type 0} (x : Kinds K Row V) (laws : KindsLaws x
       let z : ◌≡◌ {A = ℕ} 0 1 = cc in omega arith
 
   reads : (o : Result (Contents K V) (ImageFault F)) → O ≡ o → (n : ℕ) → ReadsImage x bs (seed_and_count o) (cells_after x n o)
-  reads (Ok h) e n = let p = only x laws bs small F h e in (h.records, record { lawful = p.0; is = refl }, refl, p.2)
+  reads (Ok h) e n = let p = only x laws bs (λ i. omega (arith, bytes i)) F h e in (h.records, record { lawful = p.0; is = refl }, refl, p.2)
   reads (Err f) e n = (none f e, ap (λ m. replicate m None) (sym (length-replicate n None)))
 
   pub reads_image : (r : Result (ℕ × ℕ) (ImageFault F)) (cells : List (Option (Record Row V))) (n : ℕ) → r ≡ seed_and_count O → cells ≡ cells_after x n O → ReadsImage x bs r cells

@@ -1,6 +1,5 @@
 -- the rules of block 0, byte by byte
-use Rattle.std.proofs.Common.{◌≡◌, ℕ, ◌<◌, ◌≤◌, true, false, not, ◌||◌, eqb, ltb, List, sym, ap, ◌∙◌, ap₂}
-use Rattle.std.proofs.lemmas.Bool.{lt-ltb, le-ltb, or_left}
+use Rattle.std.proofs.Common.{◌≡◌, ℕ, ◌≤◌, true, false, not, ◌||◌, eqb, ltb, List, sym, ap, ◌∙◌, ap₂}
 use Rattle.maps.specs.Maps.{Kinds}
 use Rattle.image.specs.Opened.{byte, count_of, wrong_count, breaks}
 use Rattle.image.proofs.Headers.{free, breaks_zero, breaks_free}
@@ -24,12 +23,6 @@ module _ {K Row V : Type 0} (x : Kinds K Row V) (bs : List ℕ) (i b : ℕ) (is 
   pub power_rule : i ≡ 3 → (ltb b 3 || ltb 10 b) ≡ breaks x bs i
   unfolding breaks
   power_rule e = ap (λ y. ltb y 3 || ltb 10 y) (here 3 e) ∙ sym (ap (breaks x bs) e)
-
-  pub power_low : i ≡ 3 → b < 3 → ltb b 3 ≡ breaks x bs i
-  power_low e l = let t = lt-ltb b 3 l in t ∙ sym (or_left (ltb b 3) (ltb 10 b) t) ∙ power_rule e
-
-  pub power_high : i ≡ 3 → 3 ≤ b → ltb 10 b ≡ breaks x bs i
-  power_high e l = sym (ap (λ y. y || ltb 10 b) (le-ltb b 3 l)) ∙ power_rule e
 
   pub count_rule : (n p : ℕ) → n ≡ count_of bs → p ≡ byte bs 3 → i ≡ 4 → wrong_count n p ≡ breaks x bs i
   unfolding breaks

@@ -63,6 +63,7 @@ fn scan<K: Key, V: Value, F>(
 
 // The seed and the count of the image that the bytes are, its layout in the lent cells and all beyond it empty; or the first fault, and all cells
 // empty. The bytes are those of a whole store; a caller sees to it that 1024 cells are lent. `exact` says that it accepts exactly the images.
+// Lent memory is a slice, as a rule of the project asks, so a clause and not a type tells its length.
 pub fn read_image<K: Key, V: Value, F>(
     bytes: &[u8],
     cells: &mut [Option<Record<K::Row, V>>],

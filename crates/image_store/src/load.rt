@@ -25,7 +25,8 @@ fn load<S: Store>(store: &S, work: &mut [u8]) -> Result<(), ImageFault<S::Fault>
 }
 
 // Reads the image that the store shows, through the work bytes, which end zero on each way out. A caller sees to it that they have room for every
-// block, and that 1024 cells are lent. Refused with the lowest unreadable block, else as `read_image` refuses.
+// block, and that 1024 cells are lent: lent memory is a slice, as a rule of the project asks. Refused with the lowest unreadable block, else as
+// `read_image` refuses.
 pub fn read_store<S: Store, K: Key, V: Value>(
     store: &S,
     work: &mut [u8],

@@ -1,6 +1,6 @@
 ghost use Rattle.std.specs.Prelude.{◌≡◌, length, replicate};
 
-// A guard over lent work bytes: all of them are zero once it is let go, on whatever way.
+// A guard over lent work bytes, as a rule of the project asks: all of them are zero once it is let go, on whatever way.
 pub struct Wipe<'a>(pub &'a mut [u8]);
 
 impl Drop for Wipe<'_> {

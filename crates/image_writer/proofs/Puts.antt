@@ -1,14 +1,11 @@
 -- one write after another
-use Rattle.std.proofs.Common.{◌≡◌, ℕ, is_some, mul_assoc, zero, suc, true, false, ◌%◌, bit_or, ◌+◌, ◌-◌, ◌*◌, ◌^◌, ◌<◌, ◌≤◌, Bool, List, [], ◌∷◌, ◌++◌, length, get_or, take, drop, replicate, Some, None, Ok, Err, Option, Result, sym, refl, ap, ◌∙◌, ap₂, append_assoc, arith, length-append, length-take}
+use Rattle.std.proofs.Common.{◌≡◌, ℕ, is_some, mul_assoc, zero, suc, true, false, ◌%◌, bit_or, ◌+◌, ◌-◌, ◌*◌, ◌^◌, ◌<◌, ◌≤◌, Bool, List, [], ◌∷◌, ◌++◌, length, get_or, take, drop, replicate, Some, None, Option, sym, refl, ap, ◌∙◌, ap₂, append_assoc, arith, length-append, length-take}
 use native.Mathlib.Nat.{pow-succ', pow-le-pow_right}
 use lib.ListN.{length-replicate}
 use borrow.Rule.Slice.PartMut.{put_mid}
-use Rattle.std.proofs.lemmas.Bool.{le-leb, cond-true}
 use Rattle.std.proofs.lemmas.Nat.{or_comm, or_shifted}
-use Rattle.std.proofs.lemmas.List.{get_or-take, get_or-drop, take_at, drop_at, drop-drop, drop-replicate, take_more, take-append-drop, append-nil, get_or_read, take_all}
-use Rattle.kinds.specs.Records.{written, has_room, write_answer, after_write}
-use Rattle.kinds.specs.declared.code.NoRoom.{NoRoom}
-use Rattle.kinds.proofs.Writing.{partly}
+use Rattle.std.proofs.lemmas.List.{get_or-take, get_or-drop, take_at, drop_at, drop-drop, drop-replicate, take_more, take-append-drop, append-nil, get_or_read}
+use Rattle.kinds.specs.Records.{written}
 use Rattle.image.specs.Bits.{one, packed}
 use Rattle.image.specs.Image.{held, codes}
 use Rattle.image.proofs.Packs.{packed_lt}
@@ -16,24 +13,6 @@ use Rattle.image.proofs.Packs.{packed_lt}
 -- what was read from a list
 pub read_is : {X : Type 0} (xs : List (Option X)) (i : ℕ) (o p : Option X) → i < length xs → o ≡ get_or xs i o → o ≡ p → get_or xs i None ≡ p
 read_is xs i o p l e q = sym (get_or_read xs i o l e None) ∙ q
-
--- a write that has room
-pub end_is : (out : List ℕ) (at : ℕ) (bs : List ℕ) (e : ℕ) → at + length bs ≤ length out → Ok e ≡ write_answer out at bs → e ≡ at + length bs
-end_is out at bs e l h = let q : Ok e ≡ Ok (at + length bs) = h ∙ cond-true (has_room out at bs) _ _ (le-leb _ _ l) in cc
-
-pub not_refused : (out : List ℕ) (at : ℕ) (bs : List ℕ) (f : NoRoom) → at + length bs ≤ length out → Err f ≡ write_answer out at bs → ⊥
-not_refused out at bs f l h =
-    let q : ◌≡◌ {A = Result ℕ NoRoom} (Err f) (Ok (at + length bs)) = h ∙ cond-true (has_room out at bs) _ _ (le-leb _ _ l) in
-    let z : ◌≡◌ {A = ℕ} 0 1 = cc in omega arith
-
-pub after_is : (out : List ℕ) (at : ℕ) (bs : List ℕ) → at + length bs ≤ length out → after_write out at bs ≡ written out at bs
-after_is out at bs l = cond-true (has_room out at bs) _ _ (le-leb _ _ l)
-
-pub partly_all : (out : List ℕ) (at : ℕ) (bs : List ℕ) (i : ℕ) → i ≡ length bs → partly out at bs i ≡ written out at bs
-partly_all out at bs i e = ap (λ k. partly out at bs k) e ∙ ap (λ y. take at out ++ (y ++ drop (at + length bs) out)) (take_all (length bs) bs (omega arith))
-
-pub written_none : (out : List ℕ) (at : ℕ) → out ≡ written out at []
-written_none out at = let z : at + 0 ≡ at = omega arith in sym (ap (λ k. take at out ++ drop k out) z ∙ take-append-drop at out)
 
 -- what is written behind what was written
 pub written_on : (out : List ℕ) (at n : ℕ) (xs ys : List ℕ) → n ≡ at + length xs → n + length ys ≤ length out → written (written out at xs) n ys ≡ written out at (xs ++ ys)

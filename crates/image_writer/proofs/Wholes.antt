@@ -1,13 +1,11 @@
 -- from lent cells that are a layout to the image of the map
-use Rattle.std.proofs.Common.{◌≡◌, ℕ, zero, suc, ◌+◌, ◌-◌, ◌*◌, ◌/◌, ◌≤◌, List, [], ◌∷◌, ◌++◌, map, length, take, replicate, None, Option, sym, refl, ap, ◌∙◌, ap₂, arith, length-append}
-use lib.ListN.{length-replicate}
+use Rattle.std.proofs.Common.{◌≡◌, ℕ, arith, zero, suc, ◌+◌, ◌-◌, ◌*◌, ◌/◌, ◌≤◌, List, [], ◌∷◌, ◌++◌, map, length, take, replicate, None, Option, sym, refl, ap, ◌∙◌, ap₂}
 use Rattle.std.proofs.lemmas.List.FromFn.{length-map-range_with_len}
 use Rattle.std.proofs.lemmas.List.{take_at, length-map, map-append, append-nil}
 use Rattle.kinds.specs.Records.{written}
 use Rattle.kinds.specs.declared.record.Record.{Record}
 use Rattle.layout.specs.Capacity.{power, capacity}
 use Rattle.layout.specs.Views.{seen}
-use Rattle.layout.proofs.Capacities.{capacity_range}
 use Rattle.maps.specs.Maps.{Kinds, KindsLaws, contents, lent, cells_of, laid}
 use Rattle.image.specs.Bits.{packed, bit_map}
 use Rattle.image.specs.Image.{header, held, codes, code_of, body, image, image_length}
@@ -41,22 +39,6 @@ module _ {K Row V : Type 0} (x : Kinds K Row V) (laws : KindsLaws x) (seed count
   seen_length : length seen_cells ≡ capacity count
   seen_length = length-map cells (seen (lent x)) ∙ cells_length
 
-  pub small_count : count ≤ 768
-  small_count = omega (arith, w.counts, w.laid.lawful.few)
-
-  pub rows_length : length rows ≡ 1024
-  rows_length =
-      omega (
-        arith,
-        ap length is,
-        length-append seen_cells (replicate nones None),
-        length-replicate {A = Option (Record Row V)} nones None,
-        seen_length,
-        w.counts,
-        ap capacity w.counts,
-        (capacity_range count).1,
-      )
-
   -- the first cells are those of the layout
   pub first_rows : (k : ℕ) → k ≡ capacity count → take k rows ≡ seen_cells
   first_rows k ek = ap (take k) is ∙ take_at seen_cells (replicate nones None) k (seen_length ∙ sym ek)
@@ -79,6 +61,10 @@ module _ {K Row V : Type 0} (x : Kinds K Row V) (laws : KindsLaws x) (seed count
 
   pub length_is : image_length x (contents seed m) ≡ 32 + capacity count / 8 + length (codes (code_of x) cells)
   length_is = body_length x laws (contents seed m) ∙ ap (λ n. 32 + capacity n / 8 + length (codes (code_of x) cells)) (sym w.counts)
+
+  -- what an image that has room takes of its store
+  pub takes : (k n : ℕ) → k ≡ capacity count → image_length x (contents seed m) ≤ n → 32 + k / 8 + length (codes (code_of x) (keyed_cells x (take k rows))) ≤ n
+  takes k n ek room = omega (arith, room, length_is, ap (λ y. y / 8) ek, ap (λ y. length (codes (code_of x) y)) (first_keyed k ek))
 
   -- header, bit map and codes, written one behind the other
   pub all_written : (n k p : ℕ) → k ≡ capacity count → p ≡ power count → image_length x (contents seed m) ≤ n

@@ -45,8 +45,9 @@ pub fn write_image<K: Key, V: Value>(
     ensures laws { ImageLaws ⊥ (kinds_of K.Key.kind V.Value.kind) }
 {
     let cap = capacity_of(count);
+    let layout = &cells[..cap];
     out.fill(0);
     put_header::<K, V>(power_of(count), count as u16, seed, out);
-    put_bits(&cells[..cap], &mut out[32..32 + cap / 8]);
-    put_codes::<K, V>(&cells[..cap], out, 32 + cap / 8);
+    put_bits(layout, &mut out[32..32 + cap / 8]);
+    put_codes::<K, V>(layout, out, 32 + cap / 8);
 }

@@ -9,33 +9,26 @@ use Rattle.image.specs.Image.{header, held, codes, code_of, image_length}
 use Rattle.image.specs.Rows.{keyed_cells}
 use Rattle.image.proofs.Theorems.{image_laws}
 use Rattle.image_writer.proofs.Puts.{part_written}
-use Rattle.image_writer.proofs.Wholes.{first_length, first_keyed, length_is, same_length, all_written}
+use Rattle.image_writer.proofs.Wholes.{first_length, takes, same_length, all_written}
 use Rattle.image_writer.proofs.writer.write_image.Goals as goal
+
+pub slice_bounds-layout-end : goal.slice_bounds-layout-end
+slice_bounds-layout-end g c =
+    let x = kinds_of g.K.Key.kind g.V.Value.kind in
+    let laws : KindsLaws x = record { key = g.met.K.Key.lawful; value = g.met.V.Value.lawful } in
+    c.capacity_of-cap.ensures ∙ sym (first_length x laws c.args.seed c.args.count c.args.cells.now c.requires.0 c.requires.1 _ c.capacity_of-cap.ensures)
 
 pub put_header-requires : goal.put_header-requires
 put_header-requires g c =
     let x = kinds_of g.K.Key.kind g.V.Value.kind in
     let laws : KindsLaws x = record { key = g.met.K.Key.lawful; value = g.met.V.Value.lawful } in
-    omega (arith, length_is x laws c.args.seed c.args.count c.args.cells.now c.requires.0 c.requires.1, c.requires.2, c.fill.auto.self)
+    omega (arith, takes x laws c.args.seed c.args.count c.args.cells.now c.requires.0 c.requires.1 c.capacity_of-cap.result (length c.args.out.now) c.capacity_of-cap.ensures c.requires.2, c.fill.auto.self)
 
 pub slice_bounds-put_bits-end : goal.slice_bounds-put_bits-end
 slice_bounds-put_bits-end g c =
     let x = kinds_of g.K.Key.kind g.V.Value.kind in
     let laws : KindsLaws x = record { key = g.met.K.Key.lawful; value = g.met.V.Value.lawful } in
-    c.capacity_of-cap.ensures ∙ sym (first_length x laws c.args.seed c.args.count c.args.cells.now c.requires.0 c.requires.1 _ c.capacity_of-cap.ensures)
-
-pub slice_bounds-put_bits-end-2 : goal.slice_bounds-put_bits-end-2
-slice_bounds-put_bits-end-2 g c =
-    let x = kinds_of g.K.Key.kind g.V.Value.kind in
-    let laws : KindsLaws x = record { key = g.met.K.Key.lawful; value = g.met.V.Value.lawful } in
-    omega (
-      arith,
-      ap (λ n. n / 8) c.capacity_of-cap.ensures,
-      length_is x laws c.args.seed c.args.count c.args.cells.now c.requires.0 c.requires.1,
-      c.requires.2,
-      c.fill.auto.self,
-      c.put_header.auto.out,
-    )
+    omega (arith, takes x laws c.args.seed c.args.count c.args.cells.now c.requires.0 c.requires.1 c.capacity_of-cap.result (length c.args.out.now) c.capacity_of-cap.ensures c.requires.2, c.fill.auto.self, c.put_header.auto.out)
 
 pub put_bits-requires : goal.put_bits-requires
 put_bits-requires g c =
@@ -45,41 +38,21 @@ put_bits-requires g c =
     let n = 32 + cap / 8 - 32 in
     omega (
       arith,
+      takes x laws c.args.seed c.args.count c.args.cells.now c.requires.0 c.requires.1 c.capacity_of-cap.result (length c.args.out.now) c.capacity_of-cap.ensures c.requires.2,
       ap (λ m. 8 * (m / 8)) c.capacity_of-cap.ensures,
       whole_bytes c.args.count,
       first_length x laws c.args.seed c.args.count c.args.cells.now c.requires.0 c.requires.1 _ c.capacity_of-cap.ensures,
       length-take n (drop 32 c.put_header.new.out),
       length-drop 32 c.put_header.new.out,
-      ap (λ m. m / 8) c.capacity_of-cap.ensures,
-      length_is x laws c.args.seed c.args.count c.args.cells.now c.requires.0 c.requires.1,
-      c.requires.2,
       c.fill.auto.self,
       c.put_header.auto.out,
     )
-
-pub slice_bounds-put_codes-end : goal.slice_bounds-put_codes-end
-slice_bounds-put_codes-end g c =
-    let x = kinds_of g.K.Key.kind g.V.Value.kind in
-    let laws : KindsLaws x = record { key = g.met.K.Key.lawful; value = g.met.V.Value.lawful } in
-    c.capacity_of-cap.ensures ∙ sym (first_length x laws c.args.seed c.args.count c.args.cells.now c.requires.0 c.requires.1 _ c.capacity_of-cap.ensures)
 
 pub put_codes-requires : goal.put_codes-requires
 put_codes-requires g c =
     let x = kinds_of g.K.Key.kind g.V.Value.kind in
     let laws : KindsLaws x = record { key = g.met.K.Key.lawful; value = g.met.V.Value.lawful } in
-    let seed = c.args.seed in
-    let rows = c.args.cells.now in
-    let k = first_keyed x laws seed c.args.count rows c.requires.0 c.requires.1 _ c.capacity_of-cap.ensures in
-    omega (
-      arith,
-      ap (λ n. n / 8) c.capacity_of-cap.ensures,
-      ap (λ y. length (codes (code_of x) y)) k,
-      length_is x laws seed c.args.count rows c.requires.0 c.requires.1,
-      c.requires.2,
-      c.fill.auto.self,
-      c.put_header.auto.out,
-      c.put_bits.auto.out,
-    )
+    omega (arith, takes x laws c.args.seed c.args.count c.args.cells.now c.requires.0 c.requires.1 c.capacity_of-cap.result (length c.args.out.now) c.capacity_of-cap.ensures c.requires.2, c.fill.auto.self, c.put_header.auto.out, c.put_bits.auto.out)
 
 pub returns : goal.returns
 returns g c =
@@ -101,9 +74,7 @@ returns g c =
       arith,
       length-take (32 + cap / 8 - 32) (drop 32 c.put_header.new.out),
       length-drop 32 c.put_header.new.out,
-      ap (λ m. m / 8) ec,
-      length_is x laws seed count rows c.requires.0 c.requires.1,
-      c.requires.2,
+      takes x laws seed count rows c.requires.0 c.requires.1 cap n ec c.requires.2,
       c.fill.auto.self,
       c.put_header.auto.out,
     ) in
