@@ -18,9 +18,9 @@ use Rattle.maps.specs.Commands.{found, get_answer}
 use Rattle.maps.specs.Maps.{Kinds, Laid, lent, record_order}
 use Rattle.maps.specs.declared.Answer.{Answer}
 use Rattle.maps.specs.declared.Answer.TheVariants.{Found}
-use Rattle.table.specs.Rows.{row_key, row_order}
+use Rattle.cells.specs.Rows.{row_key, row_order}
 use Rattle.table.specs.Runs.{Stores}
-use Rattle.table.proofs.Rules.{ordered, rows_ordered, lawful}
+use Rattle.cells.proofs.Rules.{ordered, rows_ordered, lawful}
 use Rattle.table.proofs.Maps.{opened, keyed}
 use Rattle.compare.specs.Compare.{StoresBySome, Lends, HasAll, Compares}
 

@@ -18,7 +18,7 @@ use Rattle.maps.specs.Maps.{Kinds, KindsLaws, Contents, Lawful, record_order, ru
 use Rattle.image.specs.Bits.{packed, bit_map}
 use Rattle.image.specs.Image.{header, held, codes, code_of, body, image_length}
 use Rattle.image.specs.Opened.{front_of}
-use Rattle.image.proofs.Orders.{ordered}
+use Rattle.cells.proofs.Rules.{ordered}
 use Rattle.image.proofs.Packs.{packed_lt}
 
 pub eights : (p : ℕ) → 3 ≤ p → 8 * (2 ^ p / 8) ≡ 2 ^ p
@@ -90,10 +90,10 @@ module _ {K Row V : Type 0} (x : Kinds K Row V) (laws : KindsLaws x) where
     count = length h.records
 
     pub stands : Stands (rule x h.seed (capacity count)) cells (λ r. In r h.records) count
-    stands = map_layout_good (record_order x) (ordered x laws) (x.key.hash h.seed) (laws.key.hash h.seed) h.records w.ascending w.few
+    stands = map_layout_good (record_order x) (ordered x laws.key) (x.key.hash h.seed) (laws.key.hash h.seed) h.records w.ascending w.few
 
     pub records_back : records_of (record_order x) cells ≡ h.records
-    records_back = map_layout_records (record_order x) (ordered x laws) (x.key.hash h.seed) (laws.key.hash h.seed) h.records w.ascending w.few
+    records_back = map_layout_records (record_order x) (ordered x laws.key) (x.key.hash h.seed) (laws.key.hash h.seed) h.records w.ascending w.few
 
     pub none_out : first_out (rule x h.seed (length cells)) cells ≡ None
     none_out = subst (λ n. first_out (rule x h.seed n) cells ≡ None) (sym stands.size) ((first_out_none (rule x h.seed (capacity count)) cells).1 stands.all)

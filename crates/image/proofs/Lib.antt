@@ -1,4 +1,3 @@
-pub mod Orders
 pub mod Chains
 pub mod Packs
 pub mod Headers
@@ -7,6 +6,5 @@ pub mod Bodies
 pub mod Opens
 pub mod Only
 pub mod Theorems
-pub mod Capacities
 pub mod Loops
 pub mod Rows

@@ -17,7 +17,7 @@ use Rattle.image.specs.declared.fault.ImageFault.TheVariants.{Header, Bits, Layo
 use Rattle.image.specs.Bits.{ones, bit_map}
 use Rattle.image.specs.Image.{header, held, codes, code_of, body, image, image_length}
 use Rattle.image.specs.Opened.{byte, count_of, seed_of, capacity_of, marked, breaks, header_check, bits_check, front_of, cells_in, layout_check, not_zero, tail_check, opened}
-use Rattle.image.proofs.Orders.{ordered}
+use Rattle.cells.proofs.Rules.{ordered}
 use Rattle.image.proofs.Chains.{ok_same, unless_ok, then_ok, cond_ok, zeros_left}
 use Rattle.image.proofs.Headers.{counts, header_is, bits_are_map}
 use Rattle.image.proofs.Walks.{Read, ones_filled, walk_read}
@@ -69,18 +69,18 @@ module _ {K Row V : Type 0} (x : Kinds K Row V) (laws : KindsLaws x) (bs : List 
     all = (first_out_none (rule x (seed_of bs) (length cells)) cells).0 f.out
 
     own : cells ≡ cells_of x found
-    own = own_layout (record_order x) (ordered x laws) (x.key.hash (seed_of bs)) (laws.key.hash (seed_of bs)) cells (omega (arith, full, right.0)) size all
+    own = own_layout (record_order x) (ordered x laws.key) (x.key.hash (seed_of bs)) (laws.key.hash (seed_of bs)) cells (omega (arith, full, right.0)) size all
 
     pub is_lawful : Lawful x found
     is_lawful = record {
       seed = omega (arith, small 8, small 9, small 10, small 11);
-      ascending = records_ascending (record_order x) (ordered x laws) cells;
-      few = omega (arith, records_le (record_order x) (ordered x laws) cells, full, right.0);
+      ascending = records_ascending (record_order x) (ordered x laws.key) cells;
+      few = omega (arith, records_le (record_order x) (ordered x laws.key) cells, full, right.0);
     }
 
     pub found_count : length found.records ≡ count_of bs
     found_count =
-        sym (map_layout_good (record_order x) (ordered x laws) (x.key.hash (seed_of bs)) (laws.key.hash (seed_of bs)) found.records is_lawful.ascending is_lawful.few).count
+        sym (map_layout_good (record_order x) (ordered x laws.key) (x.key.hash (seed_of bs)) (laws.key.hash (seed_of bs)) found.records is_lawful.ascending is_lawful.few).count
         ∙ ap filled (sym own) ∙ full
 
     pub found_cells : cells_of x found ≡ cells

@@ -4,3 +4,4 @@ pub mod Image
 pub mod Opened
 pub mod Rows
 pub mod Laws
+pub mod Told

@@ -11,16 +11,9 @@ use kinds::value::Value;
 pub fn record_of<K: Key, V: Value>(cell: Option<Record<K::Row, V>>) -> Option<Record<K, V>>
     ensures { result ≡ keyed (kinds_of K.Key.kind V.Value.kind) cell }
 {
-    match cell {
-        None => None,
-        Some(lent) => {
-            let value = lent.value;
-            match K::from_row(lent.key) {
-                None => None,
-                Some(key) => Some(Record { key, value }),
-            }
-        }
-    }
+    let Record { key, value } = cell?;
+    let key = K::from_row(key)?;
+    Some(Record { key, value })
 }
 
 pub fn clear<T: Copy>(cells: &mut [Option<T>])

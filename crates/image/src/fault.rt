@@ -6,7 +6,7 @@ ghost use Rattle.std.specs.Prelude.{◌≡◌};
 use store::fault::BlockFault;
 
 // `F` is the store's own fault, which is carried whole.
-#[derive(Clone, Copy)]
+#[derive(Clone, Copy, Debug, PartialEq, Eq)]
 pub enum ImageFault<F> {
     // The store does not give its bytes.
     Store(F),

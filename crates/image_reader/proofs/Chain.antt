@@ -6,14 +6,17 @@ use Rattle.std.proofs.lemmas.Bool.{and_parts, leb-true}
 use Rattle.kinds.specs.declared.record.Record.{Record as Rec}
 use Rattle.layout.specs.Capacity.{capacity}
 use Rattle.layout.specs.Cells.{records_of}
+use Rattle.layout.specs.Places.{first_out}
 use Rattle.layout.specs.Views.{seen}
+use Rattle.cells.specs.Rows.{row_rule}
+use Rattle.cells.proofs.Lent.{first_out_lent}
 use Rattle.layout.proofs.Capacities.{power_law}
 use Rattle.layout.proofs.Tests.{lowest_all}
-use Rattle.maps.specs.Maps.{Kinds, KindsLaws, Contents, contents, record_order, lent, cells_of}
+use Rattle.maps.specs.Maps.{Kinds, KindsLaws, Contents, contents, record_order, rule, lent, cells_of}
 use Rattle.image.specs.declared.fault.ImageFault.{ImageFault}
-use Rattle.image.specs.declared.fault.ImageFault.TheVariants.{Header, Bits}
+use Rattle.image.specs.declared.fault.ImageFault.TheVariants.{Header, Bits, Layout}
 use Rattle.image.specs.Image.{code_of}
-use Rattle.image.specs.Opened.{byte, count_of, seed_of, capacity_of, Cells, breaks, header_check, bits_check, front_of, cells_in, layout_check, tail_check, opened}
+use Rattle.image.specs.Opened.{byte, count_of, seed_of, capacity_of, Cells, unless, breaks, header_check, bits_check, front_of, cells_in, layout_check, tail_check, opened}
 use Rattle.image.specs.Rows.{keyed_cells}
 use Rattle.image.proofs.Bodies.{code_laws}
 use Rattle.image.proofs.Chains.{then_at, unless_ok, cond_ok}
@@ -69,52 +72,53 @@ module _ (F : Type 0) {K Row V : Type 0} (x : Kinds K Row V) (laws : KindsLaws x
         unfolding bits_check
         inside = leb-true _ _ (and_parts _ _ (cond_ok {E = ImageFault F} _ Bits v (sym b))).0
 
-        pub at_records : (f : ImageFault F) → Err f ≡ place_of (cells_in x bs k) → O ≡ Err f
-        unfolding opened
-        at_records f e = then_at _ _ _ (sym h) ∙ then_at _ _ _ b' ∙ then_at _ _ _ (place_err _ f (e ∙ ap (λ y. place_of (cells_in x bs y)) ek))
+        module _ (n : ℕ) (en : n ≡ k) where
+          pub at_records : (f : ImageFault F) → Err f ≡ place_of (cells_in x bs n) → O ≡ Err f
+          unfolding opened
+          at_records f e = then_at _ _ _ (sym h) ∙ then_at _ _ _ b' ∙ then_at _ _ _ (place_err _ f (e ∙ ap (λ y. place_of (cells_in x bs y)) (en ∙ ek)))
 
-        module _ (e : ℕ) (w : Ok e ≡ place_of (cells_in x {F = F} bs k)) (old new : List (Option (Rec Row V))) (fl : Filled x (cells_in x {F = F} bs k) k old new) where
-          abbrev read : (cs : List (Option (Rec K V))) × (cells_in x {F = F} bs (capacity_of bs) ≡ Ok (cs, e))
-          read = place_ok _ e (w ∙ ap (λ y. place_of (cells_in x bs y)) ek)
+          module _ (e : ℕ) (w : Ok e ≡ place_of (cells_in x {F = F} bs n)) (old part : List (Option (Rec Row V))) (fl : Filled x (cells_in x {F = F} bs n) part) where
+            abbrev read : (cs : List (Option (Rec K V))) × (cells_in x {F = F} bs (capacity_of bs) ≡ Ok (cs, e))
+            read = place_ok _ e (w ∙ ap (λ y. place_of (cells_in x bs y)) (en ∙ ek))
 
-          abbrev cs : List (Option (Rec K V))
-          cs = read.0
+            abbrev cs : List (Option (Rec K V))
+            cs = read.0
 
-          first_cells : new ≡ map (seen (lent x)) cs ++ drop k old
-          first_cells = subst (λ o. Filled x o k old new) (ap (cells_in x bs) ek ∙ read.1) fl
+            first_cells : part ≡ map (seen (lent x)) cs
+            first_cells = subst (λ o. Filled x o part) (ap (cells_in x bs) (en ∙ ek) ∙ read.1) fl
 
-          many : length cs ≡ k
-          many = (walk_read F 35 (code_of x) (front_of x) (code_laws x laws) bs (capacity_of bs) 0 (32 + capacity_of bs / 8) cs e read.1).size ∙ sym ek
+            -- the places of the rows are those of their keys
+            placed : (s : ℕ) → unless {F = F} Layout (first_out (row_rule x s (length part)) part) ≡ layout_check x s cs
+            unfolding layout_check
+            placed s =
+                ap (unless Layout) (ap (λ c. first_out (row_rule x s (length c)) c) first_cells ∙ first_out_lent x laws.key s (length (map (seen (lent x)) cs)) cs ∙ ap (λ m. first_out (rule x s m) cs) (length-map cs (seen (lent x))))
 
-          taken : keyed_cells x (take k new) ≡ cs
-          taken = ap (keyed_cells x) (ap (take k) first_cells ∙ take_at (map (seen (lent x)) cs) (drop k old) k (length-map cs (seen (lent x)) ∙ many)) ∙ keyed_back x laws cs
-
-          module _ (s : ℕ) (es : s ≡ seed_of bs) where
-            pub at_layout : (f : ImageFault F) → Err f ≡ layout_check x s (keyed_cells x (take k new)) → O ≡ Err f
-            unfolding opened
-            at_layout f q = then_at _ _ _ (sym h) ∙ then_at _ _ _ b' ∙ then_at _ _ _ read.1 ∙ then_at _ _ _ (sym (q ∙ ap₂ (layout_check x) es taken))
-
-            module _ (l : Unit {0}) (q : Ok l ≡ layout_check x {F = F} s (keyed_cells x (take k new))) where
-              q' : layout_check x {F = F} (seed_of bs) cs ≡ Ok l
-              q' = sym (q ∙ ap₂ (layout_check x) es taken)
-
-              pub at_tail : (f : ImageFault F) → Err f ≡ tail_check bs e → O ≡ Err f
+            module _ (s : ℕ) (es : s ≡ seed_of bs) where
+              pub at_layout : (f : ImageFault F) → Err f ≡ unless Layout (first_out (row_rule x s (length part)) part) → O ≡ Err f
               unfolding opened
-              at_tail f t = then_at _ _ _ (sym h) ∙ then_at _ _ _ b' ∙ then_at _ _ _ read.1 ∙ then_at _ _ _ q' ∙ then_at _ _ _ (sym t)
+              at_layout f q = then_at _ _ _ (sym h) ∙ then_at _ _ _ b' ∙ then_at _ _ _ read.1 ∙ then_at _ _ _ (sym (q ∙ placed s ∙ ap (λ y. layout_check x y cs) es))
 
-              module _ (t : Unit {0}) (z : Ok t ≡ tail_check {F = F} bs e) where
-                at_end : O ≡ Ok (contents (seed_of bs) (records_of (record_order x) cs))
+              module _ (l : Unit {0}) (q : Ok l ≡ unless {F = F} Layout (first_out (row_rule x s (length part)) part)) where
+                q' : layout_check x {F = F} (seed_of bs) cs ≡ Ok l
+                q' = sym (q ∙ placed s ∙ ap (λ y. layout_check x y cs) es)
+
+                pub at_tail : (f : ImageFault F) → Err f ≡ tail_check bs e → O ≡ Err f
                 unfolding opened
-                at_end = then_at _ _ _ (sym h) ∙ then_at _ _ _ b' ∙ then_at _ _ _ read.1 ∙ then_at _ _ _ q' ∙ then_at _ _ _ (sym z)
+                at_tail f t = then_at _ _ _ (sym h) ∙ then_at _ _ _ b' ∙ then_at _ _ _ read.1 ∙ then_at _ _ _ q' ∙ then_at _ _ _ (sym t)
 
-                all : Passed x laws bs small cs e
-                all = passed x laws bs small F u v l t cs e (sym h) b' read.1 q' (sym z)
+                module _ (t : Unit {0}) (z : Ok t ≡ tail_check {F = F} bs e) where
+                  at_end : O ≡ Ok (contents (seed_of bs) (records_of (record_order x) cs))
+                  unfolding opened
+                  at_end = then_at _ _ _ (sym h) ∙ then_at _ _ _ b' ∙ then_at _ _ _ read.1 ∙ then_at _ _ _ q' ∙ then_at _ _ _ (sym z)
 
-                pub accepted : (n : ℕ) → n ≡ count_of bs → (Ok (s, n) ≡ seed_and_count O) × Kept x O old new
-                accepted n en =
-                    let m = found_count x laws bs small cs e all in
-                    let cells : cells_of x (contents (seed_of bs) (records_of (record_order x) cs)) ≡ cs = found_cells x laws bs small cs e all in
-                    let ck : k ≡ capacity (length (records_of (record_order x) cs)) = ek ∙ cap_is x laws bs small cs e all ∙ ap capacity (sym m) in (
-                      ap₂ (λ y c. Ok (y, c)) es (en ∙ sym m) ∙ sym (ap seed_and_count at_end),
-                      subst (λ o. Kept x o old new) (sym at_end) (first_cells ∙ ap₂ (λ c j. map (seen (lent x)) c ++ drop j old) (sym cells) ck),
-                    )
+                  all : Passed x laws bs small cs e
+                  all = passed x laws bs small F u v l t cs e (sym h) b' read.1 q' (sym z)
+
+                  pub accepted : (n : ℕ) → n ≡ count_of bs → (Ok (s, n) ≡ seed_and_count O) × Kept x O old (part ++ drop k old)
+                  accepted n en =
+                      let m = found_count x laws bs small cs e all in
+                      let cells : cells_of x (contents (seed_of bs) (records_of (record_order x) cs)) ≡ cs = found_cells x laws bs small cs e all in
+                      let ck : k ≡ capacity (length (records_of (record_order x) cs)) = ek ∙ cap_is x laws bs small cs e all ∙ ap capacity (sym m) in (
+                        ap₂ (λ y c. Ok (y, c)) es (en ∙ sym m) ∙ sym (ap seed_and_count at_end),
+                        subst (λ o. Kept x o old (part ++ drop k old)) (sym at_end) (ap₂ (λ y j. y ++ drop j old) (first_cells ∙ ap (map (seen (lent x))) (sym cells)) ck),
+                      )

@@ -1,6 +1,8 @@
 -- from what the reader answers to what the bytes are the image of
-use Rattle.std.proofs.Common.{◌≡◌, ℕ, ◌-◌, ◌<◌, ◌≤◌, List, ◌++◌, map, length, get_or, replicate, None, Ok, Err, Option, Result, sym, refl, ap, ◌∙◌, subst, arith, length-append}
+use Rattle.std.proofs.Common.{◌≡◌, ℕ, ◌-◌, ◌<◌, ◌≤◌, true, false, List, ◌++◌, map, length, get_or, replicate, None, Ok, Err, Option, Result, sym, refl, ap, ◌∙◌, subst, arith, length-append}
 use lib.ListN.{length-replicate}
+use Rattle.std.proofs.lemmas.Bool.{both_ways}
+use Rattle.std.specs.Result.{is_err}
 use Rattle.std.proofs.lemmas.List.{drop-replicate}
 use Rattle.kinds.specs.declared.record.Record.{Record}
 use Rattle.layout.specs.Capacity.{capacity}
@@ -37,19 +39,19 @@ module _ (F : Type 0) {K Row V : Type 0} (x : Kinds K Row V) (laws : KindsLaws x
   reads_image r cells n a c =
       subst (λ y. ReadsImage x bs y cells) (sym a) (subst (λ y. ReadsImage x bs (seed_and_count O) y) (sym c) (reads O refl n))
 
-  kept : (o : Result (Contents K V) (ImageFault F)) (p : ℕ × ℕ) → Ok p ≡ seed_and_count o → (new : List (Option (Record Row V))) (n : ℕ) → Kept x o (replicate 1024 None) new → new ≡ cells_after x n o
+  kept : (o : Result (Contents K V) (ImageFault F)) → is_err (seed_and_count o) ≡ false → (new : List (Option (Record Row V))) (n : ℕ) → Kept x o (replicate 1024 None) new → new ≡ cells_after x n o
   unfolding laid
-  kept (Ok h) p a new n k = k ∙ ap (λ c. map (seen (lent x)) (cells_of x h) ++ c) (drop-replicate (capacity (length h.records)) 1024 None)
-  kept (Err f) p a new n k = absurd (let z : ◌≡◌ {A = ℕ} 0 1 = cc in omega arith)
+  kept (Ok h) p new n k = k ∙ ap (λ c. map (seen (lent x)) (cells_of x h) ++ c) (drop-replicate (capacity (length h.records)) 1024 None)
+  kept (Err f) p new n k = absurd (both_ways true p refl)
 
   -- an accepted image, in cells that were empty
-  pub cells_kept : (p : ℕ × ℕ) → Ok p ≡ seed_and_count O → (n : ℕ) → n ≡ 1024 → (old new : List (Option (Record Row V))) → old ≡ replicate n None → Kept x O old new → new ≡ cells_after x n O
-  cells_kept p a n en old new eo k = kept O p a new n (subst (λ c. Kept x O c new) (eo ∙ ap (λ m. replicate m None) en) k)
+  pub cells_kept : (r : Result (ℕ × ℕ) (ImageFault F)) → r ≡ seed_and_count O → is_err r ≡ false → (n : ℕ) → n ≡ 1024 → (new : List (Option (Record Row V))) → Kept x O (replicate n None) new → new ≡ cells_after x n O
+  cells_kept r a e n en new k = kept O (ap is_err (sym a) ∙ e) new n (subst (λ m. Kept x O (replicate m None) new) en k)
 
-  cleared : (o : Result (Contents K V) (ImageFault F)) (f : ImageFault F) → Err f ≡ seed_and_count o → (n : ℕ) → replicate n None ≡ cells_after x n o
-  cleared (Ok h) f a n = absurd (let z : ◌≡◌ {A = ℕ} 0 1 = cc in omega arith)
-  cleared (Err g) f a n = refl
+  cleared : (o : Result (Contents K V) (ImageFault F)) → is_err (seed_and_count o) ≡ true → (n : ℕ) → replicate n None ≡ cells_after x n o
+  cleared (Ok h) e n = absurd (both_ways false refl e)
+  cleared (Err g) e n = refl
 
   -- and a refusal
-  pub cells_cleared : (f : ImageFault F) → Err f ≡ seed_and_count O → (n : ℕ) → replicate n None ≡ cells_after x n O
-  cells_cleared f a n = cleared O f a n
+  pub cells_cleared : (r : Result (ℕ × ℕ) (ImageFault F)) → r ≡ seed_and_count O → is_err r ≡ true → (n : ℕ) → replicate n None ≡ cells_after x n O
+  cells_cleared r a e n = cleared O (ap is_err (sym a) ∙ e) n

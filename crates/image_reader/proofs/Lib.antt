@@ -1,5 +1,5 @@
 pub mod Rules
-pub mod Placing
 pub mod Turns
 pub mod Chain
 pub mod Ends
+pub mod Tails

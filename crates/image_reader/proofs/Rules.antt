@@ -21,7 +21,7 @@ module _ {K Row V : Type 0} (x : Kinds K Row V) (bs : List ℕ) (i b : ℕ) (is 
   unfolding breaks
   value_rule k q e = ap₂ (λ y z. not (eqb y z)) (here 2 e) q ∙ sym (ap (breaks x bs) e)
 
-  power_rule : i ≡ 3 → (ltb b 3 || ltb 10 b) ≡ breaks x bs i
+  pub power_rule : i ≡ 3 → (ltb b 3 || ltb 10 b) ≡ breaks x bs i
   unfolding breaks
   power_rule e = ap (λ y. ltb y 3 || ltb 10 y) (here 3 e) ∙ sym (ap (breaks x bs) e)
 

@@ -1,7 +1,7 @@
 -- the turns of the loop that reads the cells
 use Rattle.std.proofs.Common.{◌≡◌, ℕ, suc, ◌+◌, ◌-◌, ◌<◌, ◌≤◌, true, false, List, [], ◌∷◌, ◌++◌, map, length, take, drop, set, Some, None, Ok, Err, Option, Result, sym, refl, ap, ◌∙◌, subst, ap₂, append_assoc, arith, length-drop, take-append-drop}
 use Rattle.std.proofs.lemmas.Bool.{cond-true, cond-false}
-use Rattle.std.proofs.lemmas.List.{take_more_set, drop-set-lt, drop-drop, append-nil, map-append}
+use Rattle.std.proofs.lemmas.List.{take_more_set, take_all, append-nil, map-append}
 use Rattle.kinds.specs.declared.record.Record.{Record as Rec}
 use Rattle.kinds.proofs.Fronts.{front_within}
 use Rattle.layout.specs.Views.{seen}
@@ -33,25 +33,23 @@ record_none at (Some z) f e = absurd (let z : ◌≡◌ {A = ℕ} 0 1 = cc in om
 pub read_within : {K Row V : Type 0} (x : Kinds K Row V) → KindsLaws x → (bs : List ℕ) (at : ℕ) (r : Rec K V) (n : ℕ) → at ≤ length bs → front_of x (drop at bs) ≡ Some (r, n) → at + n ≤ length bs
 read_within x laws bs at r n l e = omega (arith, front_within (code_of x) (front_of x) 35 (code_laws x laws) (drop at bs) r n e, length-drop at bs)
 
-module _ (F : Type 0) {K Row V : Type 0} (x : Kinds K Row V) (bs : List ℕ) (cap start : ℕ) (old : List (Option (Rec Row V))) where
+module _ (F : Type 0) {K Row V : Type 0} (x : Kinds K Row V) (bs : List ℕ) (cap start : ℕ) where
   abbrev W : ℕ → ℕ → ℕ → Cells F (Rec K V)
   W c n at = walk (front_of x) bs c n at
 
   -- the first c cells are read, and what is left to read
   abbrev pub Turn : ℕ → List (Option (Rec Row V)) → ℕ → Type 0
-  Turn c cells at =
-      (at ≤ length bs) × (drop c cells ≡ drop c old)
-      × ((ks : List (Option (Rec K V))) × (take c cells ≡ map (seen (lent x)) ks) × (W 0 cap start ≡ onto ks (W c (cap - c) at)))
+  Turn c cells at = (at ≤ length bs) × ((ks : List (Option (Rec K V))) × (take c cells ≡ map (seen (lent x)) ks) × (W 0 cap start ≡ onto ks (W c (cap - c) at)))
 
   pub turned : (c : ℕ) {cells cells' : List (Option (Rec Row V))} {at at' : ℕ} → cells' ≡ cells → at' ≡ at → Turn c cells at → Turn c cells' at'
   turned c {cells} {cells'} {at} {at'} e f t = subst (λ y. Turn c y at') (sym e) (subst (λ n. Turn c cells n) (sym f) t)
 
-  pub begin : start ≤ length bs → Turn 0 old start
-  begin l = let e : cap ≡ cap - 0 = omega arith in (l, refl, ([], refl, onto_nil (W 0 cap start) ∙ ap (λ n. onto [] (W 0 n start)) e))
+  pub begin : (cells : List (Option (Rec Row V))) → start ≤ length bs → Turn 0 cells start
+  begin cells l = let e : cap ≡ cap - 0 = omega arith in (l, ([], refl, onto_nil (W 0 cap start) ∙ ap (λ n. onto [] (W 0 n start)) e))
 
   module _ (c : ℕ) (cells : List (Option (Rec Row V))) (at : ℕ) (t : Turn c cells at) where
     abbrev ks : List (Option (Rec K V))
-    ks = t.2.0
+    ks = t.1.0
 
     abbrev After : ℕ → Cells F (Rec K V)
     After e = W (c + 1) (cap - (c + 1)) e
@@ -63,11 +61,10 @@ module _ (F : Type 0) {K Row V : Type 0} (x : Kinds K Row V) (bs : List ℕ) (ca
     next o e l le w =
         let s = seen (lent x) o in (
           le,
-          drop-set-lt (c + 1) cells c s (omega arith) ∙ sym (drop-drop 1 c cells) ∙ ap (drop 1) t.1 ∙ drop-drop 1 c old,
           (
             ks ++ (o ∷ []),
-            take_more_set cells c s l ∙ ap (λ y. y ++ (s ∷ [])) t.2.1 ∙ sym (map-append (seen (lent x)) ks (o ∷ [])),
-            t.2.2 ∙ ap (onto ks) w ∙ onto_onto ks (o ∷ []) (After e),
+            take_more_set cells c s l ∙ ap (λ y. y ++ (s ∷ [])) t.1.1 ∙ sym (map-append (seen (lent x)) ks (o ∷ [])),
+            t.1.2 ∙ ap (onto ks) w ∙ onto_onto ks (o ∷ []) (After e),
           ),
         )
 
@@ -82,12 +79,12 @@ module _ (F : Type 0) {K Row V : Type 0} (x : Kinds K Row V) (bs : List ℕ) (ca
 
     pub fault : c < cap → marked bs c ≡ true → front_of x (drop at bs) ≡ None → W 0 cap start ≡ Err (Record at)
     unfolding walk
-    fault l y f = t.2.2 ∙ ap (onto ks) (one_more l _ (cond-true (marked bs c) _ _ y ∙ ap (λ o. reading at o After) f))
+    fault l y f = t.1.2 ∙ ap (onto ks) (one_more l _ (cond-true (marked bs c) _ _ y ∙ ap (λ o. reading at o After) f))
 
-    pub done : c ≡ cap → (W 0 cap start ≡ Ok (ks, at)) × (cells ≡ map (seen (lent x)) ks ++ drop cap old)
+    pub done : c ≡ cap → length cells ≡ cap → (W 0 cap start ≡ Ok (ks, at)) × (cells ≡ map (seen (lent x)) ks)
     unfolding walk
-    done e =
+    done e n =
         let z : cap - c ≡ 0 = omega arith in (
-          t.2.2 ∙ ap (λ n. onto ks (W c n at)) z ∙ ap (λ y. Ok (y, at)) (append-nil ks),
-          sym (take-append-drop c cells) ∙ ap₂ ◌++◌ t.2.1 (t.1 ∙ ap (λ n. drop n old) e),
+          t.1.2 ∙ ap (λ n. onto ks (W c n at)) z ∙ ap (λ y. Ok (y, at)) (append-nil ks),
+          sym (take_all c cells (omega arith)) ∙ t.1.1,
         )

@@ -18,10 +18,10 @@ abbrev pub place_of : {F R : Type 0} → Cells F R → Result ℕ (ImageFault F)
 place_of (Ok p) = Ok p.1
 place_of (Err f) = Err f
 
--- the first cap cells hold what was read, as rows, and the others are as they were
-abbrev pub Filled : {F K Row V : Type 0} → Kinds K Row V → Cells F (Rec K V) → ℕ → List (Option (Rec Row V)) → List (Option (Rec Row V)) → Type 0
-Filled x (Ok p) cap old new = new ≡ map (seen (lent x)) p.0 ++ drop cap old
-Filled x (Err f) cap old new = Unit {0}
+-- the cells hold what was read, as rows
+abbrev pub Filled : {F K Row V : Type 0} → Kinds K Row V → Cells F (Rec K V) → List (Option (Rec Row V)) → Type 0
+Filled x (Ok p) new = new ≡ map (seen (lent x)) p.0
+Filled x (Err f) new = Unit {0}
 
 -- the first cells are the layout, and the others are as they were
 abbrev pub Kept : {E K Row V : Type 0} → Kinds K Row V → Result (Contents K V) E → List (Option (Rec Row V)) → List (Option (Rec Row V)) → Type 0

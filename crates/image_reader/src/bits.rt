@@ -23,24 +23,13 @@ pub(crate) fn is_marked(bytes: &[u8], c: usize) -> bool
 fn count_marked(bytes: &[u8], cap: usize) -> usize
     ensures { result ≡ ones (marked bytes.now) 0 cap }
 {
-    let mut n = 0;
-    for c in 0..cap {
-        if is_marked(bytes, c) {
-            n += 1;
-        }
-    }
-    n
+    (0..cap).filter(|&c| is_marked(bytes, c)).count()
 }
 
 pub(crate) fn check_bits<F>(bytes: &[u8], cap: usize) -> Result<(), ImageFault<F>>
     ensures { result ≡ bits_check bytes.now cap }
 {
-    if bytes.len() < 32 + cap / 8 {
-        return Err(ImageFault::Bits);
-    }
-    let marks = count_marked(bytes, cap);
-    let count = count_at(bytes);
-    if marks == count {
+    if 32 + cap / 8 <= bytes.len() && count_marked(bytes, cap) == count_at(bytes) {
         Ok(())
     } else {
         Err(ImageFault::Bits)

@@ -3,7 +3,7 @@ ghost use Rattle.image.specs.Opened.{byte, count_of, seed_of, wrong_count, break
 ghost use Rattle.maps.specs.Maps.{kinds_of};
 ghost use Rattle.std.specs.Prelude.{◌≡◌};
 
-use image::capacity::power_of;
+use cells::ring::power_of;
 use image::fault::ImageFault;
 use kinds::key::Key;
 use kinds::value::Value;
@@ -12,13 +12,13 @@ use kinds::value::Value;
 pub(crate) fn byte_at(bytes: &[u8], i: usize) -> u8
     ensures { result ≡ byte bytes.now i }
 {
-    if i < bytes.len() { bytes[i] } else { 0 }
+    bytes.get(i).copied().unwrap_or(0)
 }
 
 pub(crate) fn count_at(bytes: &[u8]) -> usize
     ensures { result ≡ count_of bytes.now }
 {
-    byte_at(bytes, 4) as usize * 256 + byte_at(bytes, 5) as usize
+    usize::from(u16::from_be_bytes([byte_at(bytes, 4), byte_at(bytes, 5)]))
 }
 
 pub(crate) fn seed_at(bytes: &[u8]) -> u32
@@ -36,10 +36,7 @@ pub(crate) fn seed_at(bytes: &[u8]) -> u32
 fn is_wrong_count(count: usize, power: u8) -> bool
     ensures { result ≡ wrong_count count power }
 {
-    if count > 768 {
-        return true;
-    }
-    power_of(count) != power
+    count > 768 || power_of(count) != power
 }
 
 // Whether byte `i` breaks its rule.
@@ -51,7 +48,7 @@ fn is_broken<K: Key, V: Value>(bytes: &[u8], i: usize) -> bool
         0 => b != 1,
         1 => b != K::kind_number(),
         2 => b != V::kind_number(),
-        3 => b < 3 || 10 < b,
+        3 => !(3..=10).contains(&b),
         4 => is_wrong_count(count_at(bytes), byte_at(bytes, 3)),
         5 | 8..=11 => false,
         _ => b != 0,
@@ -61,10 +58,8 @@ fn is_broken<K: Key, V: Value>(bytes: &[u8], i: usize) -> bool
 pub(crate) fn check_header<K: Key, V: Value, F>(bytes: &[u8]) -> Result<(), ImageFault<F>>
     ensures { result ≡ header_check (kinds_of K.Key.kind V.Value.kind) bytes.now }
 {
-    for i in 0..32 {
-        if is_broken::<K, V>(bytes, i) {
-            return Err(ImageFault::Header(i));
-        }
+    match (0..32).find(|&i| is_broken::<K, V>(bytes, i)) {
+        Some(i) => Err(ImageFault::Header(i)),
+        None => Ok(()),
     }
-    Ok(())
 }

@@ -3,6 +3,5 @@
 
 mod bits;
 mod header;
-mod places;
 pub mod reader;
 mod records;

@@ -1,30 +1,44 @@
 // The reader: the checks one after the other, up to the first fault.
 ghost use Rattle.std.specs.Prelude.{◌≡◌, ◌≤◌, length};
 ghost use Rattle.image.specs.Laws.{ImageLaws};
-ghost use Rattle.image.specs.Opened.{tail_check, opened};
+ghost use Rattle.image.specs.Opened.{unless, tail_check, opened};
+ghost use Rattle.image.specs.declared.fault.ImageFault.TheVariants.{Layout};
+ghost use Rattle.cells.specs.Rows.{row_rule};
+ghost use Rattle.layout.specs.Places.{first_out};
 ghost use Rattle.image_reader.specs.Parts.{Kept};
 ghost use Rattle.image_reader.specs.Reads.{seed_and_count, cells_after, ReadsImage};
 ghost use Rattle.maps.specs.Maps.{kinds_of};
 
 use crate::bits::{capacity, check_bits};
 use crate::header::{byte_at, check_header, count_at, seed_at};
-use crate::places::check_layout;
 use crate::records::read_cells;
-use image::cell::clear;
+use cells::places::first_out_of_place;
 use image::fault::ImageFault;
 use kinds::key::Key;
 use kinds::record::Record;
 use kinds::value::Value;
 
+// The rows of the cells are those of keys, so their places are those of the keys.
+fn check_layout<K: Key, V: Value, F>(
+    cells: &[Option<Record<K::Row, V>>],
+    seed: u32,
+) -> Result<(), ImageFault<F>>
+    requires { length cells.now ≤ 1024 }
+    ensures { result ≡ unless Layout (first_out (row_rule (kinds_of K.Key.kind V.Value.kind) seed (length cells.now)) cells.now) }
+{
+    match first_out_of_place::<K, V>(cells, seed) {
+        Some(i) => Err(ImageFault::Layout(i)),
+        None => Ok(()),
+    }
+}
+
 fn check_tail<F>(bytes: &[u8], end: usize) -> Result<(), ImageFault<F>>
     ensures { result ≡ tail_check bytes.now end }
 {
-    for i in end..bytes.len() {
-        if bytes[i] != 0 {
-            return Err(ImageFault::Tail(i));
-        }
+    match bytes.iter().skip(end).position(|&byte| byte != 0) {
+        Some(i) => Err(ImageFault::Tail(end + i)),
+        None => Ok(()),
     }
-    Ok(())
 }
 
 // A refusal leaves any cells.
@@ -39,9 +53,10 @@ fn scan<K: Key, V: Value, F>(
     check_header::<K, V, F>(bytes)?;
     let cap = capacity(byte_at(bytes, 3));
     check_bits::<F>(bytes, cap)?;
-    let end = read_cells::<K, V, F>(bytes, cap, cells)?;
+    let layout = &mut cells[..cap];
+    let end = read_cells::<K, V, F>(bytes, layout)?;
     let seed = seed_at(bytes);
-    check_layout::<K, V, F>(&cells[..cap], seed)?;
+    check_layout::<K, V, F>(layout, seed)?;
     check_tail::<F>(bytes, end)?;
     Ok((seed, count_at(bytes)))
 }
@@ -58,12 +73,10 @@ pub fn read_image<K: Key, V: Value, F>(
     ensures exact { ReadsImage (kinds_of K.Key.kind V.Value.kind) bytes.now result cells.new }
     ensures laws { ImageLaws F (kinds_of K.Key.kind V.Value.kind) }
 {
-    clear(cells);
-    match scan::<K, V, F>(bytes, cells) {
-        Ok(found) => Ok(found),
-        Err(fault) => {
-            clear(cells);
-            Err(fault)
-        }
+    cells.fill(None);
+    let answer = scan::<K, V, F>(bytes, cells);
+    if answer.is_err() {
+        cells.fill(None);
     }
+    answer
 }

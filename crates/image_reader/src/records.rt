@@ -28,39 +28,27 @@ fn record_at<K: Key, V: Value, F>(
     requires { at ≤ length bytes.now }
     ensures { result ≡ record_or at (front_of (kinds_of K.Key.kind V.Value.kind) (drop at bytes.now)) }
 {
-    match Record::<K, V>::read(&bytes[at..]) {
-        Ok(found) => Ok(found),
-        Err(_) => Err(ImageFault::Record(at)),
-    }
+    Record::<K, V>::read(&bytes[at..]).map_err(|_| ImageFault::Record(at))
 }
 
-fn put_cell<T: Copy>(cells: &mut [T], at: usize, cell: T)
-    requires { at < length cells.old }
-    ensures { cells.new ≡ slice_set cells.old at cell }
-{
-    cells[at] = cell;
-}
-
-// Reads the first `cap` cells, and gives the place behind their records.
+// Reads the cells, and gives the place behind their records.
 pub(crate) fn read_cells<K: Key, V: Value, F>(
     bytes: &[u8],
-    cap: usize,
     cells: &mut [Option<Record<K::Row, V>>],
 ) -> Result<usize, ImageFault<F>>
-    requires room { cap ≤ length cells.old }
-    requires inside { 32 + cap / 8 ≤ length bytes.now }
-    ensures answer { result ≡ place_of (cells_in (kinds_of K.Key.kind V.Value.kind) bytes.now cap) }
-    ensures cells { Filled (kinds_of K.Key.kind V.Value.kind) (cells_in (kinds_of K.Key.kind V.Value.kind) {F = F} bytes.now cap) cap cells.old cells.new }
+    requires { 32 + length cells.old / 8 ≤ length bytes.now }
+    ensures answer { result ≡ place_of (cells_in (kinds_of K.Key.kind V.Value.kind) bytes.now (length cells.old)) }
+    ensures cells { Filled (kinds_of K.Key.kind V.Value.kind) (cells_in (kinds_of K.Key.kind V.Value.kind) {F = F} bytes.now (length cells.old)) cells.new }
 {
-    let mut at = 32 + cap / 8;
-    for c in 0..cap {
-        if is_marked(bytes, c) {
+    let mut at = 32 + cells.len() / 8;
+    for (c, cell) in cells.iter_mut().enumerate() {
+        *cell = if is_marked(bytes, c) {
             let (found, n) = record_at::<K, V, F>(bytes, at)?;
-            put_cell(cells, c, Some(to_lent(found)));
             at += n;
+            Some(to_lent(found))
         } else {
-            put_cell(cells, c, None);
-        }
+            None
+        };
     }
     Ok(at)
 }

@@ -5,6 +5,7 @@ use Rattle.layout.specs.Tests.{lowest}
 use Rattle.maps.specs.Maps.{Kinds, Contents, contents, Lawful, laid, Laid}
 use Rattle.store.specs.Answers.{Answer, given, refused, told, unreadable}
 use Rattle.store.specs.Places.{Place}
+use Rattle.store.specs.declared.fault.BlockFault.{Ghosts}
 use Rattle.image.specs.Faults.{fault_number, fault_place}
 use Rattle.image.specs.Image.{image}
 use Rattle.image.specs.Opened.{opened}
@@ -45,6 +46,10 @@ module _ {K Row V : Type 0} (x : Kinds K Row V) where
   -- what the store is opened to, a fault by its number and its place
   abbrev pub store_opened : {F : Type 0} → (F → ℕ) → (F → ℕ) → List Place → Answer (Contents K V)
   store_opened {F} number block shown = unless_lost (first_lost shown) (told (fault_number number) (fault_place block) (opened {F = F} x (bytes_of shown)))
+
+  -- the same, by the members of the trait of the store's fault
+  abbrev pub opened_by : {F : Type 0} → Ghosts F → List Place → Answer (Contents K V)
+  opened_by fault shown = store_opened fault.number fault.block shown
 
   abbrev pub seed_and_count_told : Answer (Contents K V) → Answer (ℕ × ℕ)
   seed_and_count_told (given h) = given (h.seed, length h.records)

@@ -1,38 +1,25 @@
 ghost use Rattle.std.specs.Prelude.{◌≡◌, ◌+◌, ◌*◌, ◌≤◌, length, replicate};
-ghost use Rattle.image.specs.Faults.{fault_number, fault_place};
-ghost use Rattle.image_store.specs.Loads.{load_answer, Loaded, store_opened, seed_and_count_told, cells_left, ReadsStore};
-ghost use Rattle.kinds.specs.Records.{written};
+ghost use Rattle.image.specs.Told.{tells};
+ghost use Rattle.image_store.specs.Loads.{load_answer, Loaded, opened_by, seed_and_count_told, cells_left, ReadsStore};
 ghost use Rattle.maps.specs.Maps.{kinds_of};
-ghost use Rattle.store.specs.Answers.{told};
 
 use crate::wipe::Wipe;
-use image::cell::clear;
 use image::fault::ImageFault;
 use image_reader::reader::read_image;
 use kinds::key::Key;
 use kinds::record::Record;
 use kinds::value::Value;
-use store::store::{Block, Store};
-
-fn copy_block(work: &mut [u8], start: usize, block: &Block)
-    requires { start + 32 ≤ length work.old }
-    ensures size { length block.now ≡ 32 }
-    ensures bytes { work.new ≡ written work.old start block.now }
-{
-    let end = start + 32;
-    work[start..end].copy_from_slice(block);
-}
+use store::bytes::overwrite;
+use store::store::Store;
 
 // Copies every block into the work bytes, up to the first that is unreadable.
 fn load<S: Store>(store: &S, work: &mut [u8]) -> Result<(), ImageFault<S::Fault>>
     requires { 32 * S.Store.count store.now ≤ length work.old }
-    ensures answer { told (fault_number S.Fault.BlockFault.number) (fault_place S.Fault.BlockFault.block) result ≡ load_answer (S.Store.shown store.now) }
+    ensures answer { tells S.Fault.BlockFault result ≡ load_answer (S.Store.shown store.now) }
     ensures bytes { Loaded (S.Store.shown store.now) (S.Store.count store.now) work.new result }
 {
-    let count = store.count();
-    for i in 0..count {
-        let block = store.read(i)?;
-        copy_block(work, 32 * i, &block);
+    for i in 0..store.count() {
+        overwrite(work, 32 * i, &store.read(i)?);
     }
     Ok(())
 }
@@ -46,14 +33,14 @@ pub fn read_store<S: Store, K: Key, V: Value>(
 ) -> Result<(u32, usize), ImageFault<S::Fault>>
     requires room { 32 * S.Store.count store.now ≤ length work.old }
     requires lent { length cells.old ≡ 1024 }
-    ensures answer { told (fault_number S.Fault.BlockFault.number) (fault_place S.Fault.BlockFault.block) result ≡ seed_and_count_told (kinds_of K.Key.kind V.Value.kind) (store_opened (kinds_of K.Key.kind V.Value.kind) S.Fault.BlockFault.number S.Fault.BlockFault.block (S.Store.shown store.now)) }
-    ensures cells { cells.new ≡ cells_left (kinds_of K.Key.kind V.Value.kind) (length cells.old) (store_opened (kinds_of K.Key.kind V.Value.kind) S.Fault.BlockFault.number S.Fault.BlockFault.block (S.Store.shown store.now)) }
+    ensures answer { tells S.Fault.BlockFault result ≡ seed_and_count_told (kinds_of K.Key.kind V.Value.kind) (opened_by (kinds_of K.Key.kind V.Value.kind) S.Fault.BlockFault (S.Store.shown store.now)) }
+    ensures cells { cells.new ≡ cells_left (kinds_of K.Key.kind V.Value.kind) (length cells.old) (opened_by (kinds_of K.Key.kind V.Value.kind) S.Fault.BlockFault (S.Store.shown store.now)) }
     ensures work { work.new ≡ replicate (length work.old) 0 }
     ensures exact { ReadsStore (kinds_of K.Key.kind V.Value.kind) (S.Store.shown store.now) result cells.new }
 {
-    clear(cells);
+    cells.fill(None);
     let guard = Wipe(work);
     load(store, &mut *guard.0)?;
     let end = 32 * store.count();
-    read_image::<K, V, S::Fault>(&guard.0[0..end], cells)
+    read_image::<K, V, S::Fault>(&guard.0[..end], cells)
 }

@@ -1,14 +1,16 @@
 -- one write after another
-use Rattle.std.proofs.Common.{◌≡◌, ℕ, suc, ◌+◌, ◌-◌, ◌*◌, ◌^◌, ◌<◌, ◌≤◌, Bool, List, [], ◌∷◌, ◌++◌, length, get_or, take, drop, replicate, Some, None, Ok, Err, Option, Result, sym, refl, ap, ◌∙◌, ap₂, append_assoc, arith, length-append, length-take}
-use native.Mathlib.Nat.{pow-le-pow_right}
+use Rattle.std.proofs.Common.{◌≡◌, ℕ, is_some, mul_assoc, zero, suc, true, false, ◌%◌, bit_or,  ◌+◌, ◌-◌, ◌*◌, ◌^◌, ◌<◌, ◌≤◌, Bool, List, [], ◌∷◌, ◌++◌, length, get_or, take, drop, replicate, Some, None, Ok, Err, Option, Result, sym, refl, ap, ◌∙◌, ap₂, append_assoc, arith, length-append, length-take}
+use native.Mathlib.Nat.{pow-succ', pow-le-pow_right}
 use lib.ListN.{length-replicate}
+use borrow.Rule.Slice.PartMut.{put_mid}
 use Rattle.std.proofs.lemmas.Bool.{le-leb, cond-true}
-use Rattle.std.proofs.lemmas.List.{take_at, drop_at, drop-drop, drop-replicate, take_more, take-append-drop, append-nil, get_or_read, take_all}
+use Rattle.std.proofs.lemmas.Nat.{or_comm, or_shifted}
+use Rattle.std.proofs.lemmas.List.{get_or-take, get_or-drop, take_at, drop_at, drop-drop, drop-replicate, take_more, take-append-drop, append-nil, get_or_read, take_all}
 use Rattle.kinds.specs.Records.{written, has_room, write_answer, after_write}
 use Rattle.kinds.specs.declared.code.NoRoom.{NoRoom}
 use Rattle.kinds.proofs.Writing.{partly}
 use Rattle.image.specs.Bits.{one, packed}
-use Rattle.image.specs.Image.{codes}
+use Rattle.image.specs.Image.{held, codes}
 use Rattle.image.proofs.Packs.{packed_lt}
 
 -- what was read from a list
@@ -80,13 +82,47 @@ module _ {R : Type 0} (code : R → List ℕ) where
   codes_le c i =
       omega (arith, ap (λ y. length (codes code y)) (take-append-drop i c), ap length (codes_append (take i c) (drop i c)), length-append (codes code (take i c)) (codes code (drop i c)))
 
--- bits from the highest down
-pub packed_more : (t : ℕ → Bool) (i k : ℕ) → 0 < k → k ≤ 8 → one (t (i + (k - 1))) + 2 * packed t (i + k) (8 - k) ≡ packed t (i + (k - 1)) (8 - (k - 1))
-packed_more t i k l h =
-    let e : 8 - (k - 1) ≡ suc (8 - k) = omega arith in
-    let f : i + (k - 1) + 1 ≡ i + k = omega arith in
-    ap (λ y. one (t (i + (k - 1))) + 2 * packed t y (8 - k)) (sym f) ∙ ap (packed t (i + (k - 1))) (sym e)
+-- one bit more
+packed_last : (t : ℕ → Bool) (i k : ℕ) → packed t i (suc k) ≡ packed t i k + 2 ^ k * one (t (i + k))
+packed_last t i zero = let z : i + 0 ≡ i = omega arith in omega (arith, ap (λ j. one (t j)) z)
+packed_last t i (suc k) =
+    let z : i + 1 + k ≡ i + suc k = omega arith in
+    let s : 2 ^ suc k * one (t (i + suc k)) ≡ 2 * (2 ^ k * one (t (i + suc k))) = ap (λ y. y * one (t (i + suc k))) (pow-succ' 2 k) ∙ mul_assoc 2 (2 ^ k) (one (t (i + suc k))) in
+    omega (arith, packed_last t (i + 1) k, ap (λ j. 2 ^ k * one (t j)) z, s)
 
-pub packed_half : (t : ℕ → Bool) (i k : ℕ) → 0 < k → k ≤ 8 → packed t (i + k) (8 - k) < 128
-packed_half t i k l h =
-    let p : 2 ^ (8 - k) ≤ 2 ^ 7 = pow-le-pow_right {n = 2} (omega arith) {i = 8 - k} {j = 7} (omega arith) in omega (arith, packed_lt t (i + k) (8 - k))
+module _ (t : ℕ → Bool) (k bits : ℕ) (l : k < 8) (is : bits ≡ packed t 0 k) where
+  pub bit_set : t k ≡ true → bit_or bits (1 * 2 ^ k % 2 ^ 8) ≡ packed t 0 (k + 1)
+  bit_set y =
+      let p = packed t 0 k in
+      let lt : p < 2 ^ k = packed_lt t 0 k in
+      let top : 2 ^ k ≤ 2 ^ 7 = pow-le-pow_right {n = 2} (omega arith) {i = k} {j = 7} (omega arith) in
+      let w : 1 * 2 ^ k % 2 ^ 8 ≡ 1 * 2 ^ k = omega arith in
+      let o : one (t (0 + k)) ≡ 1 = ap (λ j. one (t j)) (let z : 0 + k ≡ k = omega arith in z) ∙ ap one y in
+      let m : 2 ^ k * one (t (0 + k)) ≡ 2 ^ k = ap (λ n. 2 ^ k * n) o ∙ omega arith in
+      let e : k + 1 ≡ suc k = omega arith in
+      ap₂ bit_or is w ∙ or_comm p (1 * 2 ^ k) ∙ or_shifted 1 k p lt ∙ omega (arith, packed_last t 0 k, m, ap (packed t 0) e)
+
+  pub bit_clear : t k ≡ false → bits ≡ packed t 0 (k + 1)
+  bit_clear y =
+      let o : one (t (0 + k)) ≡ 0 = ap (λ j. one (t j)) (let z : 0 + k ≡ k = omega arith in z) ∙ ap one y in
+      let m : 2 ^ k * one (t (0 + k)) ≡ 0 = ap (λ n. 2 ^ k * n) o ∙ omega arith in
+      let e : k + 1 ≡ suc k = omega arith in
+      omega (arith, is, packed_last t 0 k, m, ap (packed t 0) e)
+
+-- eight cells apart, and where they stand
+packed_same : (t u : ℕ → Bool) (i j n : ℕ) → ((k : ℕ) → k < n → t (i + k) ≡ u (j + k)) → packed t i n ≡ packed u j n
+packed_same t u i j zero h = refl
+packed_same t u i j (suc n) h =
+    let a : i ≡ i + 0 = omega arith in
+    let b : j + 0 ≡ j = omega arith in
+    ap₂ (λ y z. y + 2 * z) (ap one (ap t a ∙ h 0 (omega arith) ∙ ap u b))
+    (packed_same t u (i + 1) (j + 1) n (λ k l. let c : i + 1 + k ≡ i + suc k = omega arith in let d : j + suc k ≡ j + 1 + k = omega arith in ap t c ∙ h (suc k) (omega arith) ∙ ap u d))
+
+pub packed_part : {R : Type 0} (cells : List (Option R)) (i n : ℕ) → n ≡ 8 → packed (held (take n (drop i cells))) 0 8 ≡ packed (held cells) i 8
+packed_part cells i n e =
+    packed_same (held (take n (drop i cells))) (held cells) 0 i 8
+    (λ k l. ap is_some (get_or-take n (drop i cells) (0 + k) None (omega (arith, e)) ∙ get_or-drop i cells (0 + k) None ∙ ap (λ j. get_or cells (i + j) None) (let z : 0 + k ≡ k = omega arith in z)))
+
+-- a part that is written as a slice of its own
+pub part_written : (out : List ℕ) (at n : ℕ) (bs : List ℕ) → n ≡ length bs → put_mid at n out bs ≡ written out at bs
+part_written out at n bs e = ap (λ y. take at out ++ (bs ++ y)) (drop-drop n at out ∙ ap (λ k. drop (at + k) out) e)

@@ -16,10 +16,7 @@ fn put_code<K: Key, V: Value>(found: &Record<K, V>, out: &mut [u8], at: usize) -
     ensures behind { result ≡ at + length (code_of (kinds_of K.Key.kind V.Value.kind) found.now) }
     ensures bytes { out.new ≡ written out.old at (code_of (kinds_of K.Key.kind V.Value.kind) found.now) }
 {
-    match found.write(out, at) {
-        Ok(end) => end,
-        Err(_) => unreachable(),
-    }
+    found.write(out, at).unwrap()
 }
 
 pub(crate) fn put_codes<K: Key, V: Value>(
@@ -31,10 +28,9 @@ pub(crate) fn put_codes<K: Key, V: Value>(
     ensures { out.new ≡ written out.old from (codes_in (code_of (kinds_of K.Key.kind V.Value.kind)) (keyed_cells (kinds_of K.Key.kind V.Value.kind) cells.now)) }
 {
     let mut at = from;
-    for i in 0..cells.len() {
-        match record_of::<K, V>(cells[i]) {
-            None => {}
-            Some(found) => at = put_code(&found, out, at),
+    for cell in cells {
+        if let Some(found) = record_of::<K, V>(*cell) {
+            at = put_code(&found, out, at);
         }
     }
 }
@@ -45,10 +41,9 @@ pub(crate) fn codes_len<K: Key, V: Value>(cells: &[Option<Record<K::Row, V>>]) -
     ensures small { result ≤ 35840 }
 {
     let mut n = 0;
-    for i in 0..cells.len() {
-        match record_of::<K, V>(cells[i]) {
-            None => {}
-            Some(found) => n += found.code_len(),
+    for cell in cells {
+        if let Some(found) = record_of::<K, V>(*cell) {
+            n += found.code_len();
         }
     }
     n

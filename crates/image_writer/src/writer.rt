@@ -8,7 +8,7 @@ ghost use Rattle.maps.specs.Maps.{kinds_of};
 
 use crate::bits::put_bits;
 use crate::codes::{codes_len, put_codes};
-use image::capacity::{capacity_of, power_of};
+use cells::ring::{capacity_of, power_of};
 use kinds::key::Key;
 use kinds::record::Record;
 use kinds::value::Value;
@@ -17,49 +17,11 @@ fn put_header<K: Key, V: Value>(power: u8, count: u16, seed: u32, out: &mut [u8]
     requires { 32 ≤ length out.old }
     ensures { out.new ≡ written out.old 0 (header K.Key.kind.number V.Value.kind.number power count seed) }
 {
-    let [c0, c1] = count.to_be_bytes();
-    let [s0, s1, s2, s3] = seed.to_be_bytes();
-    let head = [
-        1,
-        K::kind_number(),
-        V::kind_number(),
-        power,
-        c0,
-        c1,
-        0,
-        0,
-        s0,
-        s1,
-        s2,
-        s3,
-        0,
-        0,
-        0,
-        0,
-        0,
-        0,
-        0,
-        0,
-        0,
-        0,
-        0,
-        0,
-        0,
-        0,
-        0,
-        0,
-        0,
-        0,
-        0,
-        0,
-    ];
+    let mut head = [0; 32];
+    head[..4].copy_from_slice(&[1, K::kind_number(), V::kind_number(), power]);
+    head[4..6].copy_from_slice(&count.to_be_bytes());
+    head[8..12].copy_from_slice(&seed.to_be_bytes());
     out[..32].copy_from_slice(&head);
-}
-
-fn zero(out: &mut [u8])
-    ensures { out.new ≡ replicate (length out.old) 0 }
-{
-    out.fill(0);
 }
 
 // The length of the image, up to its last record, of the map of `count` records whose layout the cells are, whatever its seed.
@@ -83,8 +45,8 @@ pub fn write_image<K: Key, V: Value>(
     ensures laws { ImageLaws ⊥ (kinds_of K.Key.kind V.Value.kind) }
 {
     let cap = capacity_of(count);
-    zero(out);
+    out.fill(0);
     put_header::<K, V>(power_of(count), count as u16, seed, out);
-    put_bits(&cells[..cap], out);
+    put_bits(&cells[..cap], &mut out[32..32 + cap / 8]);
     put_codes::<K, V>(&cells[..cap], out, 32 + cap / 8);
 }

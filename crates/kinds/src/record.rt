@@ -8,7 +8,7 @@ use crate::key::Key;
 use crate::value::Value;
 
 // A key, or the row of one, with its value.
-#[derive(Clone, Copy)]
+#[derive(Clone, Copy, PartialEq, Eq, Debug)]
 pub struct Record<A, V> {
     pub key: A,
     pub value: V,
@@ -39,13 +39,15 @@ impl<K: Key, V: Value> Record<K, V> {
         ensures after { out.new ≡ after_write out.old at (record_code K.Key.kind V.Value.kind self.now) }
     {
         let n = self.code_len();
-        if out.len() < at || out.len() - at < n {
+        let end = at.checked_add(n).ok_or(NoRoom)?;
+        if out.len() < end {
             return Err(NoRoom);
         }
+        // By index: of what is written through `iter_mut` a proof learns the length alone.
         for i in 0..n {
             out[at + i] = self.code_at(i);
         }
-        Ok(at + n)
+        Ok(end)
     }
 
     // The record whose code stands at the front of the bytes, with the length of that code.

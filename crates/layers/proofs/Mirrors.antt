@@ -4,15 +4,17 @@ use Rattle.std.proofs.lemmas.Slice.Eq.{bytes_eq-Decides}
 use Rattle.std.proofs.lemmas.List.{get_or-set_same, get_or-set_other}
 use Rattle.store.specs.Places.{Place}
 use Rattle.layers.specs.Layers.{place_of, agreed, mirror_places}
-use Rattle.store.specs.Answers.{Answer, told, read_answer, place_answer}
+use Rattle.store.specs.Answers.{Answer, read_answer, place_answer}
+use Rattle.store.specs.Told.{tells}
+use Rattle.store.specs.declared.fault.BlockFault.{Ghosts}
 use Rattle.store.proofs.Rows.{get_or_places, set_places}
 use Rattle.store.proofs.Told.{within_read, read_block, read_fault}
 
 -- what a read of a block that there is tells of its place
-pub place_read : {F : Type 0} (number block : F → ℕ) (r : Result (List ℕ) F) (n : ℕ) (xs : List Place) (i : ℕ) → i < n
-    → told number block r ≡ read_answer n xs i → place_of r ≡ get_or xs i None
-place_read number block (Ok b) n xs i lt e = sym (read_block n xs i lt b e)
-place_read number block (Err f) n xs i lt e = sym (read_fault n xs i lt (number f) (block f) e)
+pub place_read : {F : Type 0} (fault : Ghosts F) (r : Result (List ℕ) F) (n : ℕ) (xs : List Place) (i : ℕ) → i < n
+    → tells fault r ≡ read_answer n xs i → place_of r ≡ get_or xs i None
+place_read fault (Ok b) n xs i lt e = sym (read_block n xs i lt b e)
+place_read fault (Err f) n xs i lt e = sym (read_fault n xs i lt _ _ e)
 
 agreed_same : (b : List ℕ) → agreed (Some b) (Some b) ≡ Some b
 agreed_same b = ap (λ t. cond t (Some b) None) ((bytes_eq-Decides b b).1 refl)

@@ -1,10 +1,11 @@
 ghost use Rattle.std.specs.Prelude.{◌≡◌, ◌<◌, false, Some, slice_set};
-ghost use Rattle.store.specs.Answers.{told, place_answer, read_answer, write_answer, shown_after};
-ghost use Rattle.store.specs.Faults.{fault_number, fault_block};
-ghost use Rattle.layers.specs.Layered.{both_count, either_protected, both_places};
+ghost use Rattle.store.specs.Answers.{place_answer};
+ghost use Rattle.store.specs.Stores.{read_told, write_told, once_written, Fixed, Writes, Flushes};
+ghost use Rattle.store.specs.Told.{tells};
+ghost use Rattle.layers.specs.Layered.{both_count, either_protected, both_shown, both_kept};
 ghost use Rattle.layers.specs.Layers.{place_of, agreed, mirror_lengths};
 
-use store::fault::{BlockFault, StoreFault, writable};
+use store::fault::{BlockFault, StoreFault, readable, writable};
 use store::store::{Block, Store};
 
 // Two stores that are written alike, so that what one of them can't read the other may.
@@ -29,37 +30,28 @@ fn agree<F: BlockFault, G: BlockFault>(
     left: Result<Block, F>,
     right: Result<Block, G>,
 ) -> Result<Block, StoreFault>
-    ensures { told fault_number fault_block result ≡ place_answer i (agreed (place_of left) (place_of right)) }
+    ensures { tells ⟦<StoreFault as BlockFault>⟧ result ≡ place_answer i (agreed (place_of left) (place_of right)) }
 {
-    match (left, right) {
-        (Ok(x), Ok(y)) => {
-            if x == y {
-                Ok(x)
-            } else {
-                Err(StoreFault::Unreadable(i))
-            }
-        }
-        (Ok(x), Err(_)) => Ok(x),
-        (Err(_), Ok(y)) => Ok(y),
-        (Err(_), Err(_)) => Err(StoreFault::Unreadable(i)),
-    }
+    let shown = match (left.ok(), right.ok()) {
+        (Some(x), Some(y)) => (x == y).then_some(x),
+        (x, y) => x.or(y),
+    };
+    shown.ok_or(StoreFault::Unreadable(i))
 }
 
 impl<L: Store, R: Store> Mirror<L, R> {
     // Block `i`, which both halves have.
     fn read_both(&self, i: usize) -> Result<Block, StoreFault>
-        requires { i < both_count L.Store.count R.Store.count self.now }
-        ensures { told fault_number fault_block result ≡ read_answer (both_count L.Store.count R.Store.count self.now) (both_places L.Store.count R.Store.count L.Store.shown R.Store.shown self.now) i }
+        requires { i < both_count L.Store R.Store self.now }
+        ensures { tells ⟦<StoreFault as BlockFault>⟧ result ≡ read_told ⟦<Mirror<L, R> as Store>⟧ self.now i }
     {
         agree(i, self.left.read(i), self.right.read(i))
     }
 
     // Hands a write to both halves, whatever they answer.
     fn write_halves(&mut self, i: usize, block: &Block)
-        ensures left { L.Store.shown self.new.left ≡ shown_after (L.Store.count self.old.left) (L.Store.protected self.old.left) (L.Store.shown self.old.left) i block.now }
-        ensures left_same { (L.Store.count self.new.left ≡ L.Store.count self.old.left) × (L.Store.protected self.new.left ≡ L.Store.protected self.old.left) }
-        ensures right { R.Store.shown self.new.right ≡ shown_after (R.Store.count self.old.right) (R.Store.protected self.old.right) (R.Store.shown self.old.right) i block.now }
-        ensures right_same { (R.Store.count self.new.right ≡ R.Store.count self.old.right) × (R.Store.protected self.new.right ≡ R.Store.protected self.old.right) }
+        ensures left { Writes L.Store i block.now self.old.left self.new.left }
+        ensures right { Writes R.Store i block.now self.old.right self.new.right }
     {
         let _ = self.left.write(i, block);
         let _ = self.right.write(i, block);
@@ -67,10 +59,9 @@ impl<L: Store, R: Store> Mirror<L, R> {
 
     // Writes block `i`, which both halves have and take.
     fn write_both(&mut self, i: usize, block: &Block)
-        requires { (i < both_count L.Store.count R.Store.count self.old) × (either_protected L.Store.protected R.Store.protected self.old ≡ false) }
-        ensures count { both_count L.Store.count R.Store.count self.new ≡ both_count L.Store.count R.Store.count self.old }
-        ensures protect { either_protected L.Store.protected R.Store.protected self.new ≡ either_protected L.Store.protected R.Store.protected self.old }
-        ensures shows { both_places L.Store.count R.Store.count L.Store.shown R.Store.shown self.new ≡ slice_set (both_places L.Store.count R.Store.count L.Store.shown R.Store.shown self.old) i (Some block.now) }
+        requires { (i < both_count L.Store R.Store self.old) × (either_protected L.Store R.Store self.old ≡ false) }
+        ensures fixed { Fixed ⟦<Mirror<L, R> as Store>⟧ self.old self.new }
+        ensures shows { both_shown L.Store R.Store self.new ≡ slice_set (both_shown L.Store R.Store self.old) i (Some block.now) }
         ensures left { L.Store.shown self.new.left ≡ slice_set (L.Store.shown self.old.left) i (Some block.now) }
         ensures right { R.Store.shown self.new.right ≡ slice_set (R.Store.shown self.old.right) i (Some block.now) }
     {
@@ -81,13 +72,13 @@ impl<L: Store, R: Store> Mirror<L, R> {
 impl<L: Store, R: Store> Store for Mirror<L, R> {
     type Fault = StoreFault;
 
-    ghost count = { both_count L.Store.count R.Store.count };
+    ghost count = { both_count L.Store R.Store };
 
-    ghost protected = { either_protected L.Store.protected R.Store.protected };
+    ghost protected = { either_protected L.Store R.Store };
 
-    ghost shown = { both_places L.Store.count R.Store.count L.Store.shown R.Store.shown };
+    ghost shown = { both_shown L.Store R.Store };
 
-    ghost kept = { both_places L.Store.count R.Store.count L.Store.kept R.Store.kept };
+    ghost kept = { both_kept L.Store R.Store };
 
     ghost lengths = { λ s. mirror_lengths (L.Store.count s.left) (R.Store.count s.right) (L.Store.shown s.left) (R.Store.shown s.right) (L.Store.kept s.left) (R.Store.kept s.right) };
 
@@ -100,20 +91,16 @@ impl<L: Store, R: Store> Store for Mirror<L, R> {
     }
 
     fn read(&self, i: usize) -> Result<Block, StoreFault> {
-        if i >= self.count() {
-            return Err(StoreFault::Range(i));
-        }
+        readable(i, self.count())?;
         self.read_both(i)
     }
 
     // What the trait asks, then that the write goes to both halves, or to none.
     fn write(&mut self, i: usize, block: &Block) -> Result<(), StoreFault>
-        ensures answer { told fault_number fault_block result ≡ write_answer (both_count L.Store.count R.Store.count self.old) (either_protected L.Store.protected R.Store.protected self.old) i }
-        ensures count { both_count L.Store.count R.Store.count self.new ≡ both_count L.Store.count R.Store.count self.old }
-        ensures protect { either_protected L.Store.protected R.Store.protected self.new ≡ either_protected L.Store.protected R.Store.protected self.old }
-        ensures shows { both_places L.Store.count R.Store.count L.Store.shown R.Store.shown self.new ≡ shown_after (both_count L.Store.count R.Store.count self.old) (either_protected L.Store.protected R.Store.protected self.old) (both_places L.Store.count R.Store.count L.Store.shown R.Store.shown self.old) i block.now }
-        ensures left { L.Store.shown self.new.left ≡ shown_after (both_count L.Store.count R.Store.count self.old) (either_protected L.Store.protected R.Store.protected self.old) (L.Store.shown self.old.left) i block.now }
-        ensures right { R.Store.shown self.new.right ≡ shown_after (both_count L.Store.count R.Store.count self.old) (either_protected L.Store.protected R.Store.protected self.old) (R.Store.shown self.old.right) i block.now }
+        ensures answer { tells ⟦<StoreFault as BlockFault>⟧ result ≡ write_told ⟦<Mirror<L, R> as Store>⟧ self.old i }
+        ensures writes { Writes ⟦<Mirror<L, R> as Store>⟧ i block.now self.old self.new }
+        ensures left { L.Store.shown self.new.left ≡ once_written ⟦<Mirror<L, R> as Store>⟧ self.old i (L.Store.shown self.old.left) (slice_set (L.Store.shown self.old.left) i (Some block.now)) }
+        ensures right { R.Store.shown self.new.right ≡ once_written ⟦<Mirror<L, R> as Store>⟧ self.old i (R.Store.shown self.old.right) (slice_set (R.Store.shown self.old.right) i (Some block.now)) }
     {
         writable(i, self.count(), self.protected())?;
         self.write_both(i, block);
@@ -122,12 +109,9 @@ impl<L: Store, R: Store> Store for Mirror<L, R> {
 
     // What the trait asks, then that both halves are flushed.
     fn flush(&mut self)
-        ensures count { both_count L.Store.count R.Store.count self.new ≡ both_count L.Store.count R.Store.count self.old }
-        ensures protect { either_protected L.Store.protected R.Store.protected self.new ≡ either_protected L.Store.protected R.Store.protected self.old }
-        ensures shows { both_places L.Store.count R.Store.count L.Store.shown R.Store.shown self.new ≡ both_places L.Store.count R.Store.count L.Store.shown R.Store.shown self.old }
-        ensures keeps { both_places L.Store.count R.Store.count L.Store.kept R.Store.kept self.new ≡ both_places L.Store.count R.Store.count L.Store.shown R.Store.shown self.old }
-        ensures left { (L.Store.shown self.new.left ≡ L.Store.shown self.old.left) × (L.Store.kept self.new.left ≡ L.Store.shown self.old.left) }
-        ensures right { (R.Store.shown self.new.right ≡ R.Store.shown self.old.right) × (R.Store.kept self.new.right ≡ R.Store.shown self.old.right) }
+        ensures flushes { Flushes ⟦<Mirror<L, R> as Store>⟧ self.old self.new }
+        ensures left { Flushes L.Store self.old.left self.new.left }
+        ensures right { Flushes R.Store self.old.right self.new.right }
     {
         self.left.flush();
         self.right.flush();

@@ -5,14 +5,14 @@ ghost use Rattle.maps.specs.Commands.{row_of};
 ghost use Rattle.std.specs.Prelude.{◌≡◌};
 
 // A command on the row of a key. A sheet is a slice of them.
-#[derive(Clone, Copy)]
+#[derive(Clone, Copy, PartialEq, Eq, Debug)]
 pub enum Command<R, V> {
     Put(R, V),
     Drop(R),
     Get(R),
 }
 
-#[derive(Clone, Copy)]
+#[derive(Clone, Copy, PartialEq, Eq, Debug)]
 pub enum Answer<V> {
     New(V),
     Joined(V),
@@ -27,9 +27,7 @@ impl<R: Copy, V: Copy> Command<R, V> {
         ensures { result ≡ row_of self.now }
     {
         match self {
-            Command::Put(row, _) => *row,
-            Command::Drop(row) => *row,
-            Command::Get(row) => *row,
+            Command::Put(row, _) | Command::Drop(row) | Command::Get(row) => *row,
         }
     }
 }

@@ -1,7 +1,7 @@
 // The quarter hours that a member of staff worked in a week.
 ghost use Rattle.std.specs.Prelude.{◌≡◌, ◌^◌, ◌<◌};
 
-#[derive(Clone, Copy)]
+#[derive(Clone, Copy, PartialEq, Eq, PartialOrd, Ord, Debug)]
 pub struct Hours {
     week: u16,
     quarters: u16,

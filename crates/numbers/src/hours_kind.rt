@@ -21,33 +21,20 @@ impl Value for Hours {
 
     fn code_at(&self, i: usize) -> u8 {
         if i < 2 {
-            let bytes = self.week().to_be_bytes();
-            bytes[i]
+            self.week().to_be_bytes()[i]
         } else {
-            let bytes = self.quarters().to_be_bytes();
-            bytes[i - 2]
+            self.quarters().to_be_bytes()[i - 2]
         }
     }
 
     fn join(self, other: Hours) -> Hours {
-        if self.week() < other.week() {
-            other
-        } else if other.week() < self.week() {
-            self
-        } else if self.quarters() < other.quarters() {
-            other
-        } else {
-            self
-        }
+        self.max(other)
     }
 
     fn read(bytes: &[u8]) -> Result<(Hours, usize), NoCode> {
-        if let [a, b, c, d, ..] = bytes {
-            let week = u16::from_be_bytes([*a, *b]);
-            let quarters = u16::from_be_bytes([*c, *d]);
-            Ok((Hours::new(week, quarters), 4))
-        } else {
-            Err(NoCode)
-        }
+        let [a, b, c, d] = *bytes.first_chunk::<4>().ok_or(NoCode)?;
+        let week = u16::from_be_bytes([a, b]);
+        let quarters = u16::from_be_bytes([c, d]);
+        Ok((Hours::new(week, quarters), 4))
     }
 }

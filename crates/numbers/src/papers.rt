@@ -1,7 +1,7 @@
 // The papers that a member of staff holds, one bit for each.
 ghost use Rattle.std.specs.Prelude.{◌≡◌, ◌^◌, ◌<◌};
 
-#[derive(Clone, Copy)]
+#[derive(Clone, Copy, PartialEq, Eq, Debug)]
 pub struct Papers {
     bits: u16,
     // In a proof a number has no width of its own.

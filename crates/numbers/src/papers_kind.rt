@@ -20,8 +20,7 @@ impl Value for Papers {
     }
 
     fn code_at(&self, i: usize) -> u8 {
-        let bytes = self.bits().to_be_bytes();
-        bytes[i]
+        self.bits().to_be_bytes()[i]
     }
 
     fn join(self, other: Papers) -> Papers {
@@ -29,10 +28,7 @@ impl Value for Papers {
     }
 
     fn read(bytes: &[u8]) -> Result<(Papers, usize), NoCode> {
-        if let [a, b, ..] = bytes {
-            Ok((Papers::new(u16::from_be_bytes([*a, *b])), 2))
-        } else {
-            Err(NoCode)
-        }
+        let code = *bytes.first_chunk::<2>().ok_or(NoCode)?;
+        Ok((Papers::new(u16::from_be_bytes(code)), 2))
     }
 }

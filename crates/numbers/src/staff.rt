@@ -1,7 +1,7 @@
 // A staff number.
 ghost use Rattle.std.specs.Prelude.{◌≡◌, ◌^◌, ◌<◌};
 
-#[derive(Clone, Copy)]
+#[derive(Clone, Copy, PartialEq, Eq, PartialOrd, Ord, Debug)]
 pub struct StaffNumber {
     number: u32,
     // In a proof a number has no width of its own.

@@ -23,12 +23,11 @@ impl Key for StaffNumber {
     }
 
     fn code_at(&self, i: usize) -> u8 {
-        let bytes = self.number().to_be_bytes();
-        bytes[i]
+        self.number().to_be_bytes()[i]
     }
 
     fn compare(&self, other: &StaffNumber) -> Ordering {
-        self.number().cmp(&other.number())
+        self.cmp(other)
     }
 
     fn hash(&self, seed: u32) -> u32 {
@@ -44,10 +43,7 @@ impl Key for StaffNumber {
     }
 
     fn read(bytes: &[u8]) -> Result<(StaffNumber, usize), NoCode> {
-        if let [a, b, c, d, ..] = bytes {
-            Ok((StaffNumber::new(u32::from_be_bytes([*a, *b, *c, *d])), 4))
-        } else {
-            Err(NoCode)
-        }
+        let code = *bytes.first_chunk::<4>().ok_or(NoCode)?;
+        Ok((StaffNumber::new(u32::from_be_bytes(code)), 4))
     }
 }

@@ -57,14 +57,14 @@ module _ {S F K Row V : Type 0} (k : KeyKind K Row) (v : ValueKind V) (w : Fault
   before = record { cells = cells; scratch = scratch; answers = answers }
 
   -- refused, everything is as it was
-  pub refused_step : (f : SheetFault) (after : Pieces Row V) (told : Result Unit (RegisterFault F)) → told ≡ Err (of_sheet f) → SheetRun (kinds_of k v) o.seed o.count o.capacity sheet before after (Err f)
+  pub refused_step : (f : SheetFault) (after : Pieces Row V) (told : Result Unit (RegisterFault F)) → told ≡ Err (of_sheet f) → SheetRun (kinds_of k v) o.shape.seed o.shape.count o.shape.capacity sheet before after (Err f)
       → Step (setup k v) (open_world d o cells) (enter_event w sheet scratch answers told (open_world d o after.cells) after.scratch after.answers)
   refused_step f after told e r =
       subst (λ (q : Result Unit (RegisterFault F)). Step (setup k v) (open_world d o cells) (enter_event w sheet scratch answers q (open_world d o after.cells) after.scratch after.answers)) (sym e)
       (subst (λ (p : Pieces Row V). Step (setup k v) (open_world d o cells) (enter_event w sheet scratch answers (Err (of_sheet f)) (open_world d o p.cells) p.scratch p.answers))
       (sym r.1) (by f r.0))
     where
-      by : (f : SheetFault) → Refused (all_rows_keyed (kinds_of k v) sheet) (well_lent (length cells) (length scratch) (length sheet) (length answers)) (IsTable (kinds_of k v) o.seed o.count o.capacity cells) f
+      by : (f : SheetFault) → Refused (all_rows_keyed (kinds_of k v) sheet) (well_lent (length cells) (length scratch) (length sheet) (length answers)) (IsTable (kinds_of k v) o.shape.seed o.shape.count o.shape.capacity cells) f
           → Step (setup k v) (open_world d o cells) (enter_event w sheet scratch answers (Err (of_sheet f)) (open_world d o cells) scratch answers)
       by Why.Kind h = record {
         does = refused_with _ _ (refusal_is (kinds_of k v) _ (length cells) sheet scratch answers false _ same h refl)
@@ -82,9 +82,9 @@ module _ {S F K Row V : Type 0} (k : KeyKind K Row) (v : ValueKind V) (w : Fault
             ));
       }
 
-  pub entered_step : (left cap : ℕ) (after : Pieces Row V) → cap ≡ capacity left → length after.scratch ≡ length scratch → SheetRun (kinds_of k v) o.seed o.count o.capacity sheet before after (Ok left)
+  pub entered_step : (left cap : ℕ) (after : Pieces Row V) → cap ≡ capacity left → length after.scratch ≡ length scratch → SheetRun (kinds_of k v) o.shape.seed o.shape.count o.shape.capacity sheet before after (Ok left)
       → Step (setup k v) (open_world d o cells)
-      (enter_event {F = F} w sheet scratch answers (Ok tt) (open_world d (record { store = o.store; key_kind = o.key_kind; value_kind = o.value_kind; seed = o.seed; count = left; capacity = cap }) after.cells) after.scratch after.answers)
+      (enter_event {F = F} w sheet scratch answers (Ok tt) (open_world d (record { store = o.store; key_kind = o.key_kind; value_kind = o.value_kind; shape = record { seed = o.shape.seed; count = left; capacity = cap } }) after.cells) after.scratch after.answers)
   entered_step left cap after c l r =
       let x = kinds_of k v in
       let judged = r.0 in
@@ -108,7 +108,7 @@ module _ {S F K Row V : Type 0} (k : KeyKind K Row) (v : ValueKind V) (w : Fault
               record { laid = h; count = n; room = judged.2.1 ∙ ap capacity n },
               record {
                 outcome = ap Outcome.entered front;
-                phase = λ i. Phase.opened (record { key_kind = p i; value_kind = q i; seed = o.seed; count = e i; capacity = z i });
+                phase = λ i. Phase.opened (record { key_kind = p i; value_kind = q i; seed = o.shape.seed; count = e i; capacity = z i });
                 count = refl;
                 protected = refl;
                 shown = refl;

@@ -21,14 +21,14 @@ use Rattle.contents.specs.declared.fault.RegisterFault.TheVariants.{Cells}
 
 module _ {S F K Row V : Type 0} (k : KeyKind K Row) (v : ValueKind V) (w : FaultWords F) (d : StoreWords S F) (o : Open S) (cells : List (Option (Record Row V))) where
   -- what the check of the cells tells, as the steps have it
-  pub laid_for : (t : IsTable (kinds_of k v) o.seed o.count o.capacity cells) → LaidFor (kinds_of k v) (batch_in o) t.0.0 cells
+  pub laid_for : (t : IsTable (kinds_of k v) o.shape.seed o.shape.count o.shape.capacity cells) → LaidFor (kinds_of k v) (batch_in o) t.0.0 cells
   laid_for t = record { laid = t.0.1; count = t.0.2; room = t.1 ∙ ap capacity t.0.2 }
 
-  pub table_of : (m : List (Record K V)) → LaidFor (kinds_of k v) (batch_in o) m cells → IsTable (kinds_of k v) o.seed o.count o.capacity cells
+  pub table_of : (m : List (Record K V)) → LaidFor (kinds_of k v) (batch_in o) m cells → IsTable (kinds_of k v) o.shape.seed o.shape.count o.shape.capacity cells
   table_of m l = ((m, l.laid, l.count), l.room ∙ ap capacity (sym l.count))
 
-  module _ (laws : KeyLaws k) (output : List (Option (Record Row V))) (free : None ≡ list_refusal (other_kinds (kinds_of k v) (batch_in o)) (length cells) o.count (length output)) where
-    pub no_cells_step : (IsTable (kinds_of k v) o.seed o.count o.capacity cells → ⊥)
+  module _ (laws : KeyLaws k) (output : List (Option (Record Row V))) (free : None ≡ list_refusal (other_kinds (kinds_of k v) (batch_in o)) (length cells) o.shape.count (length output)) where
+    pub no_cells_step : (IsTable (kinds_of k v) o.shape.seed o.shape.count o.shape.capacity cells → ⊥)
         → Step (setup k v) (open_world d o cells) (list_event {F = F} w output (Err Cells) (open_world d o cells) output)
     no_cells_step none = record {
       does = not_refused _ _ free (inr (
@@ -37,26 +37,26 @@ module _ {S F K Row V : Type 0} (k : KeyKind K Row) (v : ValueKind V) (w : Fault
       ));
     }
 
-    module _ (t : IsTable (kinds_of k v) o.seed o.count o.capacity cells) where
+    module _ (t : IsTable (kinds_of k v) o.shape.seed o.shape.count o.shape.capacity cells) where
       abbrev m : List (Record K V)
       m = t.0.0
 
-      same_listing : in_cells cells ≡ listing (kinds_of k v) (contents o.seed m)
+      same_listing : in_cells cells ≡ listing (kinds_of k v) (contents o.shape.seed m)
       same_listing = ap in_cells t.0.1.is
 
-      size : o.count ≡ length (listing (kinds_of k v) (contents o.seed m))
-      size = t.0.2 ∙ sym ((listing_laws (kinds_of k v) laws).count (contents o.seed m) t.0.1.lawful)
+      size : o.shape.count ≡ length (listing (kinds_of k v) (contents o.shape.seed m))
+      size = t.0.2 ∙ sym ((listing_laws (kinds_of k v) laws).count (contents o.shape.seed m) t.0.1.lawful)
 
       pub listing_fits : length (in_cells cells) ≤ length output
-      listing_fits = omega (arith, ap length same_listing, size, (list_taken (other_kinds (kinds_of k v) (batch_in o)) (length cells) o.count (length output) (sym free)).2)
+      listing_fits = omega (arith, ap length same_listing, size, (list_taken (other_kinds (kinds_of k v) (batch_in o)) (length cells) o.shape.count (length output) (sym free)).2)
 
       pub listed_step : (output' : List (Option (Record Row V))) → output' ≡ over_first (map Some (in_cells cells)) output
-          → Step (setup k v) (open_world d o cells) (list_event {F = F} w output (Ok o.count) (open_world d o cells) output')
+          → Step (setup k v) (open_world d o cells) (list_event {F = F} w output (Ok o.shape.count) (open_world d o cells) output')
       listed_step output' e =
-          let rs = listing (kinds_of k v) (contents o.seed m) in
+          let rs = listing (kinds_of k v) (contents o.shape.seed m) in
           let q : output' ≡ over_first (map Some rs) output = e ∙ ap (λ xs. over_first (map Some xs) output) same_listing in
           let n = t.0.2 in
-          let r : in_cells (take o.count output') ≡ rs = ap (λ i. in_cells (take i output')) size ∙ ap (λ u. in_cells (take (length rs) u)) q ∙ listed_front rs output in
+          let r : in_cells (take o.shape.count output') ≡ rs = ap (λ i. in_cells (take i output')) size ∙ ap (λ u. in_cells (take (length rs) u)) q ∙ listed_front rs output in
           record {
             does = not_refused _ _ free (inl (
               m,

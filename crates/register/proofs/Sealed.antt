@@ -32,10 +32,10 @@ as_seal other room count work = ap (λ b. first ((other, kind_fault) ∷ (not_10
 module _ {S K Row V : Type 0} (x : Kinds K Row V) (s : Store) (o : Open S) (cells : List (Option (Record Row V))) (work : List ℕ) where
   -- what the looks have told
   pub may_seal : (long blocks : ℕ) (protected : Bool) → blocks ≡ s.count → None ≡ list_refusal (other_kinds x (batch_in o)) (length cells) blocks (length work / 32)
-      → IsTable x o.seed o.count o.capacity cells → LongAs x o.count cells long → nat_lt (32 * blocks) long ≡ false → protected ≡ s.protected → protected ≡ false
+      → IsTable x o.shape.seed o.shape.count o.shape.capacity cells → LongAs x o.shape.count cells long → nat_lt (32 * blocks) long ≡ false → protected ≡ s.protected → protected ≡ false
       → MaySeal x s o cells work
   may_seal long blocks protected n free t longs fits p opened =
-      let is : long ≡ image_length x (contents o.seed t.0.0) = longs o.seed t.0.0 (record { laid = t.0.1; counts = t.0.2 }) in
+      let is : long ≡ image_length x (contents o.shape.seed t.0.0) = longs o.shape.seed t.0.0 (record { laid = t.0.1; counts = t.0.2 }) in
       record {
         free = free ∙ as_seal (other_kinds x (batch_in o)) (length cells) blocks (length work) ∙ ap (λ b. seal_refusal (other_kinds x (batch_in o)) (length cells) b (length work)) n;
         table = t;
@@ -46,22 +46,22 @@ module _ {S K Row V : Type 0} (x : Kinds K Row V) (s : Store) (o : Open S) (cell
     abbrev m : List (Record K V)
     m = may.table.0.0
 
-    pub holds : Holds x o.seed o.count cells m
+    pub holds : Holds x o.shape.seed o.shape.count cells m
     holds = record { laid = may.table.0.1; counts = may.table.0.2 }
 
     pub suffices : 32 * s.count ≤ length work
     suffices = (seal_taken (other_kinds x (batch_in o)) (length cells) s.count (length work) (sym may.free)).2
 
     -- the image has room, and the store may be written
-    pub may_write : HasRoom x o.seed o.count cells (32 * s.count) × (s.protected ≡ false)
+    pub may_write : HasRoom x o.shape.seed o.shape.count cells (32 * s.count) × (s.protected ≡ false)
     may_write =
-        let w = write_taken (image_length x (contents o.seed m)) s.count s.protected (sym may.fits) in
+        let w = write_taken (image_length x (contents o.shape.seed m)) s.count s.protected (sym may.fits) in
         ((m, holds, w.0), w.1)
 
 module _ {S F K Row V : Type 0} (k : KeyKind K Row) (v : ValueKind V) (w : FaultWords F) (d : StoreWords S F) (o : Open S) (cells : List (Option (Record Row V))) (work : List ℕ)
     (may : MaySeal (kinds_of k v) (meaning d o.store) o cells work) where
   pub sealed_step : (s : S) (c : Closed S) (cells' : List (Option (Record Row V))) (work' : List ℕ) → c.store ≡ s → d.count s ≡ d.count o.store → d.protected s ≡ d.protected o.store
-      → ShowsImage (kinds_of k v) o.seed o.count cells (d.count o.store) (d.shown s) → d.kept s ≡ d.shown s → cells' ≡ replicate (length cells) None → work' ≡ replicate (length work) 0
+      → ShowsImage (kinds_of k v) o.shape.seed o.shape.count cells (d.count o.store) (d.shown s) → d.kept s ≡ d.shown s → cells' ≡ replicate (length cells) None → work' ≡ replicate (length work) 0
       → Step (setup k v) (open_world d o cells) (seal_event {F = F} w d work (Ok c) cells' work')
   sealed_step s c cells' work' store count protected shows keeps emptied zero =
       let t = may.table in

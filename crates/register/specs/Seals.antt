@@ -21,8 +21,8 @@ use Rattle.register.specs.declared.batch.Token.{Token}
 -- no look finds a reason to refuse: before the cells, at the cells, and behind them
 pub record MaySeal {S K Row V : Type 0} (x : Kinds K Row V) (s : Store) (o : Open S) (cells : List (Option (Record Row V))) (work : List ℕ) : Type 0 where
   pub free : None ≡ seal_refusal (other_kinds x (batch_in o)) (length cells) s.count (length work)
-  pub table : IsTable x o.seed o.count o.capacity cells
-  pub fits : None ≡ write_refusal (image_length x (contents o.seed table.0.0)) s.count s.protected
+  pub table : IsTable x o.shape.seed o.shape.count o.shape.capacity cells
+  pub fits : None ≡ write_refusal (image_length x (contents o.shape.seed table.0.0)) s.count s.protected
 
 -- the looks before a seal writes: it may, or it is refused with everything as it was
 abbrev pub SealSeen : {S F K Row V : Type 0} → KeyKind K Row → ValueKind V → FaultWords F → StoreWords S F → Open S → List (Option (Record Row V)) → List ℕ → Result Unit (RegisterFault F) → Type 0

@@ -20,7 +20,7 @@ abbrev pub closed_world : {S F Row V : Type 0} → StoreWords S F → Closed S �
 closed_world d c cells = record { store = meaning d c.store; phase = Phase.closed; cells = cells }
 
 abbrev pub batch_in : {S : Type 0} → Open S → Batch
-batch_in o = record { key_kind = o.key_kind; value_kind = o.value_kind; seed = o.seed; count = o.count; capacity = o.capacity }
+batch_in o = record { key_kind = o.key_kind; value_kind = o.value_kind; seed = o.shape.seed; count = o.shape.count; capacity = o.shape.capacity }
 
 -- a batch of so many records under the seed
 abbrev pub batch_under : {K Row V : Type 0} → Kinds K Row V → ℕ → ℕ → Batch
@@ -31,8 +31,8 @@ open_world d o cells = record { store = meaning d o.store; phase = Phase.opened 
 
 -- the look at the cells: they are the layout of the batch's count, capacity and seed, or CELLS
 abbrev pub CellsSeen : {S F K Row V : Type 0} → Kinds K Row V → Open S → List (Option (Record Row V)) → Result Unit (RegisterFault F) → Type 0
-CellsSeen x o cells (Ok u) = IsTable x o.seed o.count o.capacity cells
-CellsSeen x o cells (Err f) = (f ≡ Cells) × (IsTable x o.seed o.count o.capacity cells → ⊥)
+CellsSeen x o cells (Ok u) = IsTable x o.shape.seed o.shape.count o.shape.capacity cells
+CellsSeen x o cells (Err f) = (f ≡ Cells) × (IsTable x o.shape.seed o.shape.count o.shape.capacity cells → ⊥)
 
 -- a call to which no other piece is lent
 abbrev pub plain_event : {Row V : Type 0} → Call Row V → Outcome Row V → World Row V → Event Row V

@@ -7,13 +7,14 @@ ghost use Rattle.model.specs.Refusals.{first, other_kinds, list_refusal};
 ghost use Rattle.register.specs.Worlds.{batch_in, batch_under, CellsSeen};
 ghost use Rattle.std.specs.Prelude.{◌≡◌, true, [], ◌∷◌};
 
+use cells::ring::capacity_of;
+use cells::shape::Shape;
 use contents::fault::RegisterFault;
 use kinds::key::Key;
 use kinds::record::Record;
 use kinds::value::Value;
 use sheets::check::is_layout;
 use store::store::Store;
-use table::ring::capacity_of;
 
 pub mod ends;
 pub mod enters;
@@ -32,9 +33,7 @@ pub struct Open<S> {
     store: S,
     key_kind: u8,
     value_kind: u8,
-    seed: u32,
-    count: usize,
-    capacity: usize,
+    shape: Shape,
 }
 
 // Stands beside an open batch. Only seal and abandon spend it, and only a spent one may be let go.
@@ -79,9 +78,11 @@ impl<S> Closed<S> {
             store: self.into_store(),
             key_kind: K::kind_number(),
             value_kind: V::kind_number(),
-            seed,
-            count,
-            capacity: capacity_of(count),
+            shape: Shape {
+                seed,
+                count,
+                capacity: capacity_of(count),
+            },
         };
         (batch, Token { spent: false })
     }
@@ -96,9 +97,7 @@ impl<S> Open<S> {
             store,
             key_kind: _,
             value_kind: _,
-            seed: _,
-            count: _,
-            capacity: _,
+            shape: _,
         } = self;
         Closed::new(store)
     }
@@ -132,14 +131,14 @@ impl<S: Store> Open<S> {
         Ok(())
     }
 
-    // Sees to the cells, which are to be a layout of the batch's count, capacity and seed.
+    // Sees to the cells, which are to be a layout of the batch's shape.
     fn check_cells<K: Key, V: Value>(
         &self,
         cells: &[Option<Record<K::Row, V>>],
     ) -> Result<(), RegisterFault<S::Fault>>
         ensures { CellsSeen (kinds_of K.Key.kind V.Value.kind) self.now cells.now result }
     {
-        if is_layout::<K, V>(cells, self.seed, self.count, self.capacity) {
+        if is_layout::<K, V>(cells, self.shape) {
             Ok(())
         } else {
             Err(RegisterFault::Cells)

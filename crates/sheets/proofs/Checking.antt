@@ -1,6 +1,9 @@
 -- the tests that tell a layout
-use Rattle.std.proofs.Common.{◌≡◌, ℕ, ◌-◌, ◌^◌, ◌<◌, ◌≤◌, true, false, List, [], ◌∷◌, ◌++◌, map, length, take, drop, replicate, is_some, Some, None, Decides, Option, sym, refl, ap, ◌∙◌, subst, inl, inr, arith}
-use Rattle.std.proofs.lemmas.List.{take-append-drop, length-take-le, length-drop, length-map}
+use Rattle.std.proofs.Common.{◌≡◌, ℕ, ◌+◌, ◌-◌, ◌^◌, ◌<◌, ◌≤◌, Bool, true, false, cond, List, [], ◌∷◌, ◌++◌, map, length, get_or, take, drop, replicate, is_some, Some, None, Decides, Option, sym, refl, ap, ◌∙◌, subst, inl, inr, arith}
+use Rattle.std.proofs.lemmas.List.{get_or_default, take-append-drop, length-take-le, length-drop, length-map}
+use Rattle.std.specs.List.{count_by, list_all}
+use Rattle.std.proofs.lemmas.List.Sums.{AllPass-from_list_all, list_all-from_AllPass}
+use Rattle.std.proofs.lemmas.List.Recursion.{is_count_by}
 use Rattle.std.proofs.lemmas.Bool.{both_ways}
 use Rattle.kinds.specs.Kinds.{KeyLaws}
 use Rattle.kinds.specs.declared.record.Record.{Record}
@@ -14,14 +17,13 @@ use Rattle.layout.proofs.Laid.{filled_none}
 use Rattle.layout.proofs.Layouts.{own_layout, sound_distinct}
 use Rattle.layout.proofs.Orders.{all_from_in}
 use Rattle.layout.proofs.Places.{first_out_none}
-use Rattle.layout.proofs.Records.{Distinct, distinct, records_in, records_count, records_ascending}
-use Rattle.layout.proofs.Tests.{some_none}
+use Rattle.layout.proofs.Records.{some_inside, Distinct, distinct, records_in, records_count, records_ascending}
 use Rattle.layout.proofs.Views.{unseen, ascending_unseen, hash_some_small}
 use Rattle.maps.specs.Maps.{Kinds, record_order, lent}
-use Rattle.sheets.specs.Checks.{Keyed}
-use Rattle.table.specs.Rows.{row_key, row_order, row_rule}
+use Rattle.sheets.specs.Checks.{cell_keyed, Keyed}
+use Rattle.cells.specs.Rows.{row_key, row_order, row_rule}
 use Rattle.table.specs.Runs.{Stores}
-use Rattle.table.proofs.Rules.{ordered, rows_ordered, lawful, lawful_at}
+use Rattle.cells.proofs.Rules.{ordered, rows_ordered, lawful, lawful_at}
 use Rattle.table.proofs.Maps.{opened, closed, keyed, view}
 
 -- cells none of which is filled are empty
@@ -30,17 +32,27 @@ none_filled [] e = refl
 none_filled (None ∷ c) e = ap (λ t. None ∷ t) (none_filled c e)
 none_filled (Some r ∷ c) e = absurd (omega arith)
 
--- a filled cell counts one
-pub one_more : {R : Type 0} (o : Option R) (r : R) → o ≡ Some r → filled (o ∷ []) ≡ 1
-one_more None r e = absurd (some_none None r e refl)
-one_more (Some s) r e = refl
+-- what is filled, counted by the test
+pub filled_by : {R : Type 0} (c : List (Option R)) → count_by is_some c ≡ filled c
+filled_by {R} c = sym (is_count_by filled is_some refl more c)
+  where
+    more : (o : Option R) (d : List (Option R)) → filled (o ∷ d) ≡ cond (is_some o) (1 + filled d) (filled d)
+    more None d = refl
+    more (Some r) d = omega arith
 
 pub no : {P : Type 0} → (P → ⊥) → Decides false P
 no h = ((λ e. absurd (both_ways false refl e)), (λ p. absurd (h p)))
 
--- the record of a cell is the one that was read from it
-pub keyed_here : {K Row V : Type 0} (x : Kinds K Row V) (o : Option (Record Row V)) (s r : Record Row V) → o ≡ Some s → o ≡ Some r → is_some (row_key x r) ≡ true → is_some (row_key x s) ≡ true
-keyed_here x o s r e f h = let q : r ≡ s = cc in ap (λ (t : Record _ _). is_some (row_key x t)) (sym q) ∙ h
+-- what the test says of each cell
+pub keyed_by : {K Row V : Type 0} (x : Kinds K Row V) (c : List (Option (Record Row V))) (r : Bool) → r ≡ list_all (cell_keyed x) c → Decides r (Keyed x c)
+keyed_by {K} {Row} {V} x c r e = (
+  (λ y i s is. ap (cell_keyed x) (sym is) ∙ AllPass-from_list_all (cell_keyed x) c (sym e ∙ y) i None (some_inside c i s is)),
+  (λ k. e ∙ list_all-from_AllPass (cell_keyed x) c (λ i d l. here (get_or c i d) (λ s is. k i s (get_or_default c i None d l ∙ is)))),
+)
+  where
+    here : (o : Option (Record Row V)) → ((s : Record Row V) → o ≡ Some s → is_some (row_key x s) ≡ true) → cell_keyed x o ≡ true
+    here None k = refl
+    here (Some s) k = k s refl
 
 in_map : {R S : Type 0} (f : R → S) (s : S) (m : List R) → In s (map f m) → (r : R) × (f r ≡ s)
 in_map f s [] i = absurd i

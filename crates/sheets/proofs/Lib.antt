@@ -1,4 +1,3 @@
-pub mod Finding
 pub mod Checking
 pub mod Keying
 pub mod Walking

@@ -1,11 +1,16 @@
 -- What tells that lent cells are a layout.
-use Rattle.std.specs.Prelude.{◌≡◌, ℕ, true, List, is_some, Some, Option}
+use Rattle.std.specs.Prelude.{◌≡◌, ℕ, Bool, true, List, is_some, Some, None, Option}
 use Rattle.kinds.specs.declared.record.Record.{Record}
 use Rattle.layout.specs.Capacity.{capacity}
 use Rattle.layout.specs.Cells.{at}
 use Rattle.maps.specs.Maps.{Kinds}
-use Rattle.table.specs.Rows.{row_key}
+use Rattle.cells.specs.Rows.{row_key}
 use Rattle.table.specs.Runs.{Stores}
+
+-- nothing stands in the cell, or the row of a key
+abbrev pub cell_keyed : {K Row V : Type 0} → Kinds K Row V → Option (Record Row V) → Bool
+cell_keyed x None = true
+cell_keyed x (Some s) = is_some (row_key x s)
 
 -- every record's row is a key's
 abbrev pub Keyed : {K Row V : Type 0} → Kinds K Row V → List (Option (Record Row V)) → Type 0

@@ -1,5 +1,6 @@
 -- What a sheet of commands does on lent cells, and when it is refused.
-use Rattle.std.specs.Prelude.{◌≡◌, ℕ, Bool, true, false, ◌&&◌, List, [], ◌∷◌, ◌++◌, length, drop, replicate, is_some, Some, None, Ok, Err, Option, Result, ◌==◌, nat_le}
+use Rattle.std.specs.Prelude.{◌≡◌, ℕ, Bool, true, false, ◌&&◌, List, ◌++◌, length, drop, replicate, is_some, None, Ok, Err, Option, Result, ◌==◌, nat_le}
+use Rattle.std.specs.List.{list_all}
 use Rattle.kinds.specs.declared.record.Record.{Record}
 use Rattle.maps.specs.Commands.{row_of, answers_to, map_after_sheet}
 use Rattle.maps.specs.Maps.{Kinds, Laid}
@@ -21,9 +22,8 @@ fault_place Lent = 0
 fault_place Cells = 0
 
 -- the row of every command is a key's
-unfoldable pub all_rows_keyed : {K Row V : Type 0} → Kinds K Row V → List (Command Row V) → Bool
-all_rows_keyed x [] = true
-all_rows_keyed x (c ∷ cs) = is_some (x.key.key (row_of c)) && all_rows_keyed x cs
+abbrev pub all_rows_keyed : {K Row V : Type 0} → Kinds K Row V → List (Command Row V) → Bool
+all_rows_keyed x sheet = list_all (λ c. is_some (x.key.key (row_of c))) sheet
 
 -- 1024 cells and as many of scratch, at most 64 commands, and an answer for each
 abbrev pub well_lent : ℕ → ℕ → ℕ → ℕ → Bool
@@ -35,9 +35,9 @@ Refused keyed lent table Kind = keyed ≡ false
 Refused keyed lent table Lent = (keyed ≡ true) × (lent ≡ false)
 Refused keyed lent table Cells = (keyed ≡ true) × (lent ≡ true) × (table → ⊥)
 
-abbrev pub Judged : Bool → Bool → Type 0 → Option SheetFault → Type 0
-Judged keyed lent table (Some fault) = Refused keyed lent table fault
-Judged keyed lent table None = (keyed ≡ true) × (lent ≡ true) × table
+abbrev pub Judged : Bool → Bool → Type 0 → Result (Unit {0}) SheetFault → Type 0
+Judged keyed lent table (Err fault) = Refused keyed lent table fault
+Judged keyed lent table (Ok u) = (keyed ≡ true) × (lent ≡ true) × table
 
 -- what the lent pieces hold after a sheet that was run on the cells of the map m: the layout of the map after it, empty cells,
 -- and the answers in front of what was there
@@ -64,5 +64,5 @@ SheetRun x seed count cap sheet before after (Err fault) =
     Refused (all_rows_keyed x sheet) (well_lent (length before.cells) (length before.scratch) (length sheet) (length before.answers)) (IsTable x seed count cap before.cells) fault
     × (after ≡ before)
 SheetRun {K} {Row} {V} x seed count cap sheet before after (Ok left) =
-    Judged (all_rows_keyed x sheet) (well_lent (length before.cells) (length before.scratch) (length sheet) (length before.answers)) (IsTable x seed count cap before.cells) None
+    Judged (all_rows_keyed x sheet) (well_lent (length before.cells) (length before.scratch) (length sheet) (length before.answers)) (IsTable x seed count cap before.cells) (Ok tt)
     × RunsAll x seed count sheet before.cells before.answers left after.cells after.scratch after.answers

@@ -1,48 +1,36 @@
 // Whether lent cells, with any rows in them, are a layout.
-ghost use Rattle.std.specs.Prelude.{◌≡◌, ◌≤◌, length, Decides};
+ghost use Rattle.std.specs.Prelude.{◌≡◌, ◌≤◌, length, Decides, is_some};
+ghost use Rattle.std.specs.List.{count_by, list_all};
 ghost use Rattle.layout.specs.Capacity.{capacity as demanded};
-ghost use Rattle.layout.specs.Cells.{filled};
 ghost use Rattle.maps.specs.Maps.{kinds_of};
-ghost use Rattle.sheets.specs.Checks.{Keyed, IsTable};
+ghost use Rattle.sheets.specs.Checks.{cell_keyed, Keyed, IsTable};
 ghost use Rattle.table.specs.Runs.{Stores};
 
-use crate::places::first_out_of_place;
+use cells::places::first_out_of_place;
+use cells::ring::capacity_of;
+use cells::shape::Shape;
 use kinds::key::Key;
 use kinds::record::Record;
 use kinds::value::Value;
 use table::commands::MOST_RECORDS;
-use table::ring::capacity_of;
 
 fn count_filled<R: Copy>(cells: &[Option<R>]) -> usize
-    ensures { result ≡ filled cells.now }
+    ensures { result ≡ count_by is_some cells.now }
 {
-    let mut count = 0;
-    for i in 0..cells.len() {
-        let cell = cells[i];
-        match cell {
-            None => {}
-            Some(_) => count += 1,
-        }
-    }
-    count
+    cells.iter().filter(|cell| cell.is_some()).count()
+}
+
+// Whether a cell is empty or holds a key's row.
+fn is_keyed<K: Key, V: Value>(cell: &Option<Record<K::Row, V>>) -> bool
+    ensures { result ≡ cell_keyed (kinds_of K.Key.kind V.Value.kind) cell.now }
+{
+    cell.is_none_or(|record| K::from_row(record.key).is_some())
 }
 
 fn all_keyed<K: Key, V: Value>(cells: &[Option<Record<K::Row, V>>]) -> bool
-    ensures { Decides result (Keyed (kinds_of K.Key.kind V.Value.kind) cells.now) }
+    ensures { result ≡ list_all (cell_keyed (kinds_of K.Key.kind V.Value.kind)) cells.now }
 {
-    for i in 0..cells.len() {
-        let cell = cells[i];
-        match cell {
-            None => {}
-            Some(found) => {
-                let key: Option<K> = K::from_row(found.key);
-                if key.is_none() {
-                    return false;
-                }
-            }
-        }
-    }
-    true
+    cells.iter().all(|cell| is_keyed::<K, V>(cell))
 }
 
 // The same where the lengths and the count are right, as `is_layout` has shown.
@@ -71,23 +59,18 @@ fn holds_layout<K: Key, V: Value>(
     first_out_of_place::<K, V>(front, seed).is_none()
 }
 
-// Whether the cells are a layout of that count, capacity and seed, with all beyond the capacity empty.
-pub fn is_layout<K: Key, V: Value>(
-    cells: &[Option<Record<K::Row, V>>],
-    seed: u32,
-    count: usize,
-    capacity: usize,
-) -> bool
-    ensures { Decides result (IsTable (kinds_of K.Key.kind V.Value.kind) seed count capacity cells.now) }
+// Whether the cells are a layout of that shape, with all beyond the capacity empty.
+pub fn is_layout<K: Key, V: Value>(cells: &[Option<Record<K::Row, V>>], shape: Shape) -> bool
+    ensures { Decides result (IsTable (kinds_of K.Key.kind V.Value.kind) shape.seed shape.count shape.capacity cells.now) }
 {
     if cells.len() != 1024 {
         return false;
     }
-    if count > MOST_RECORDS {
+    if shape.count > MOST_RECORDS {
         return false;
     }
-    if capacity != capacity_of(count) {
+    if shape.capacity != capacity_of(shape.count) {
         return false;
     }
-    holds_layout::<K, V>(cells, seed, count, capacity)
+    holds_layout::<K, V>(cells, shape.seed, shape.count, shape.capacity)
 }

@@ -6,6 +6,7 @@ ghost use Rattle.table.specs.Runs.{Stores};
 ghost use Rattle.sheets.specs.Sheets.{fault_number, fault_place, all_rows_keyed, well_lent, Judged, RunsAll, SheetRun};
 
 use crate::check::is_layout;
+use cells::shape::Shape;
 use kinds::key::Key;
 use kinds::record::Record;
 use kinds::value::Value;
@@ -13,13 +14,13 @@ use maps::{Answer, Command};
 use table::commands::run;
 
 // Why a sheet is refused.
-#[derive(Clone, Copy)]
+#[derive(Clone, Copy, PartialEq, Eq, Debug)]
 pub enum SheetFault {
     // A command's row is no key's.
     Kind,
     // A lent thing has a wrong length.
     Lent,
-    // The cells are not a layout of that count, capacity and seed.
+    // The cells are not a layout of that shape.
     Cells,
 }
 
@@ -37,25 +38,16 @@ impl SheetFault {
     pub fn place(self) -> usize
         ensures { result ≡ fault_place self }
     {
-        match self {
-            SheetFault::Kind => 0,
-            SheetFault::Lent => 0,
-            SheetFault::Cells => 0,
-        }
+        0 // whatever the fault
     }
 }
 
 fn all_rows_keyed<K: Key, V: Value>(sheet: &[Command<K::Row, V>]) -> bool
     ensures { result ≡ all_rows_keyed (kinds_of K.Key.kind V.Value.kind) sheet.now }
 {
-    for i in 0..sheet.len() {
-        let command = sheet[i];
-        let key: Option<K> = K::from_row(command.row());
-        if key.is_none() {
-            return false;
-        }
-    }
-    true
+    sheet
+        .iter()
+        .all(|command| K::from_row(command.row()).is_some())
 }
 
 // Of the lengths that cells, scratch, sheet and answers have.
@@ -65,38 +57,29 @@ fn is_well_lent(cells: usize, scratch: usize, sheet: usize, answers: usize) -> b
     cells == 1024 && scratch == 1024 && sheet <= 64 && sheet <= answers
 }
 
-// The refusal that a sheet demands, if any.
-fn refusal<K: Key, V: Value>(
+// Whether a sheet may run, and else why not.
+fn check<K: Key, V: Value>(
     cells: &[Option<Record<K::Row, V>>],
     spare: usize,
     sheet: &[Command<K::Row, V>],
     room: usize,
-    seed: u32,
-    count: usize,
-    capacity: usize,
-) -> Option<SheetFault>
-    ensures { Judged (all_rows_keyed (kinds_of K.Key.kind V.Value.kind) sheet.now) (well_lent (length cells.now) spare (length sheet.now) room) (IsTable (kinds_of K.Key.kind V.Value.kind) seed count capacity cells.now) result }
+    shape: Shape,
+) -> Result<(), SheetFault>
+    ensures { Judged (all_rows_keyed (kinds_of K.Key.kind V.Value.kind) sheet.now) (well_lent (length cells.now) spare (length sheet.now) room) (IsTable (kinds_of K.Key.kind V.Value.kind) shape.seed shape.count shape.capacity cells.now) result }
 {
     if !all_rows_keyed::<K, V>(sheet) {
-        return Some(SheetFault::Kind);
+        return Err(SheetFault::Kind);
     }
     if !is_well_lent(cells.len(), spare, sheet.len(), room) {
-        return Some(SheetFault::Lent);
+        return Err(SheetFault::Lent);
     }
-    if !is_layout::<K, V>(cells, seed, count, capacity) {
-        return Some(SheetFault::Cells);
+    if !is_layout::<K, V>(cells, shape) {
+        return Err(SheetFault::Cells);
     }
-    None
+    Ok(())
 }
 
-fn clear<R: Copy>(cells: &mut [Option<R>])
-    ensures { cells.new ≡ replicate (length cells.old) None }
-{
-    for i in 0..cells.len() {
-        cells[i] = None;
-    }
-}
-
+// Written in `run_all` itself, the proof that the place of an enum of a parameter fits into an address doesn't close.
 fn write_answer<T: Copy>(answers: &mut [T], i: usize, answer: T)
     requires { i < length answers.old }
     ensures { answers.new ≡ slice_set answers.old i answer }
@@ -120,9 +103,9 @@ fn run_all<K: Key, V: Value>(
     ensures { RunsAll (kinds_of K.Key.kind V.Value.kind) seed count sheet.now cells.old answers.old result cells.new scratch.new answers.new }
 {
     let mut held = count;
-    for i in 0..sheet.len() {
-        let command = sheet[i];
-        let (answer, after) = run::<K, V>(cells, scratch, seed, held, command);
+    // `zip` with `iter_mut` would leave no fact of what was written.
+    for (i, command) in sheet.iter().enumerate() {
+        let (answer, after) = run::<K, V>(cells, scratch, seed, held, *command);
         write_answer(answers, i, answer);
         held = after;
     }
@@ -135,26 +118,11 @@ pub fn run_sheet<K: Key, V: Value>(
     scratch: &mut [Option<Record<K::Row, V>>],
     sheet: &[Command<K::Row, V>],
     answers: &mut [Answer<V>],
-    seed: u32,
-    count: usize,
-    capacity: usize,
+    shape: Shape,
 ) -> Result<usize, SheetFault>
-    ensures { SheetRun (kinds_of K.Key.kind V.Value.kind) seed count capacity sheet.now (record { cells = cells.old; scratch = scratch.old; answers = answers.old }) (record { cells = cells.new; scratch = scratch.new; answers = answers.new }) result }
+    ensures { SheetRun (kinds_of K.Key.kind V.Value.kind) shape.seed shape.count shape.capacity sheet.now (record { cells = cells.old; scratch = scratch.old; answers = answers.old }) (record { cells = cells.new; scratch = scratch.new; answers = answers.new }) result }
 {
-    let fault = refusal::<K, V>(
-        cells,
-        scratch.len(),
-        sheet,
-        answers.len(),
-        seed,
-        count,
-        capacity,
-    );
-    match fault {
-        Some(why) => Err(why),
-        None => {
-            clear(scratch);
-            Ok(run_all::<K, V>(cells, scratch, sheet, answers, seed, count))
-        }
-    }
+    check::<K, V>(cells, scratch.len(), sheet, answers.len(), shape)?;
+    scratch.fill(None);
+    Ok(run_all::<K, V>(cells, scratch, sheet, answers, shape.seed, shape.count))
 }

@@ -40,6 +40,9 @@ module _ (n : ℕ) (locked : Bool) (i : ℕ) (h : i < n) where
   pub not_taken : {X : Type 0} (was becomes : X) → locked ≡ true → after_write n locked i was becomes ≡ was
   not_taken was becomes e = search rules
 
+  pub refused_answer : locked ≡ true → write_answer n locked i ≡ write_protected i
+  refused_answer e = search rules
+
   within_write : write_answer n locked i ≡ cond locked (write_protected i) (given tt)
   within_write = search rules
 

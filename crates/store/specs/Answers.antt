@@ -29,6 +29,10 @@ place_answer i None = unreadable i
 abbrev pub read_answer : ℕ → List Place → ℕ → Answer (List ℕ)
 read_answer count shown i = cond (nat_lt i count) (place_answer i (slice_index_or shown i None)) (out_of_range i)
 
+-- whether there is a block i
+abbrev pub range_answer : ℕ → ℕ → Answer (Unit {0})
+range_answer count i = cond (nat_lt i count) (Answer.given tt) (out_of_range i)
+
 -- a write of block i
 abbrev pub write_answer : ℕ → Bool → ℕ → Answer (Unit {0})
 write_answer count protected i = cond (nat_lt i count) (cond protected (write_protected i) (Answer.given tt)) (out_of_range i)

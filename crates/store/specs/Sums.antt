@@ -1,9 +1,8 @@
 -- Blocks in lent bytes, each with its Fletcher sums.
 use Rattle.std.specs.Prelude.{ℕ, ◌+◌, ◌*◌, ◌/◌, ◌%◌, cond, List, [], ◌∷◌, length, take, drop, Some, None}
-use Rattle.std.proofs.lemmas.List.FromFn.{length-map-range_with_len}
 use Rattle.std.specs.Str.{bytes_eq}
 use Rattle.store.specs.Lent.{block_at}
-use Rattle.store.specs.Places.{Place, places, Lengths}
+use Rattle.store.specs.Places.{Place, places}
 
 -- both sums once the byte x has gone in: into the first, and that into the second, mod 255
 abbrev pub sums_more : ℕ → ℕ → ℕ → ℕ × ℕ
@@ -26,6 +25,3 @@ checked_count bytes = length bytes / 34
 
 abbrev pub checked_places : List ℕ → List Place
 checked_places bytes = places (checked_count bytes) (λ k. checked_place (take 34 (drop (k * 34) bytes)))
-
-pub checked_lengths : (bytes : List ℕ) → Lengths (checked_count bytes) (checked_places bytes) (checked_places bytes)
-checked_lengths bytes = record { of_shown = length-map-range_with_len _ 0 _; of_kept = length-map-range_with_len _ 0 _ }

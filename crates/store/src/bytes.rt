@@ -1,10 +1,10 @@
 ghost use Rattle.std.specs.Prelude.{◌≡◌, ◌+◌, ◌≤◌, length};
-ghost use Rattle.std.specs.Str.{bytes_eq};
 ghost use Rattle.store.specs.Lent.{block_at, overwritten};
 
 use crate::store::Block;
 
-pub(crate) fn load(bytes: &[u8], start: usize) -> Block
+// The block that lies in bytes from a start on.
+pub fn block_at(bytes: &[u8], start: usize) -> Block
     requires { start + 32 ≤ length bytes.now }
     ensures { result ≡ block_at bytes.now start }
 {
@@ -13,16 +13,11 @@ pub(crate) fn load(bytes: &[u8], start: usize) -> Block
     block
 }
 
-pub(crate) fn save(bytes: &mut [u8], start: usize, new: &[u8])
+// Writes over bytes from a start on.
+pub fn overwrite(bytes: &mut [u8], start: usize, new: &[u8])
     requires { start + length new.now ≤ length bytes.old }
     ensures { bytes.new ≡ overwritten bytes.old start new.now }
 {
     let end = start + new.len();
     bytes[start..end].copy_from_slice(new);
-}
-
-pub(crate) fn same(a: &[u8], b: &[u8]) -> bool
-    ensures { result ≡ bytes_eq a.now b.now }
-{
-    a == b
 }

@@ -1,32 +1,18 @@
-ghost use Rattle.std.specs.Prelude.{◌≡◌, ◌*◌, ◌<◌, ◌++◌, length, drop, Some, None, slice_index_or, slice_set};
-ghost use Rattle.store.specs.Answers.{told, write_answer, shown_after, after_write};
-ghost use Rattle.store.specs.Faults.{fault_number, fault_block};
-ghost use Rattle.store.specs.Lent.{overwritten};
-ghost use Rattle.store.specs.Sums.{sums, sums_more, checked_place, checked_count, checked_places, checked_lengths};
+ghost use Rattle.std.specs.Prelude.{◌≡◌, ◌<◌, ◌++◌, length};
+ghost use Rattle.std.proofs.Common.{arith};
+ghost use Rattle.store.specs.Sums.{sums, sums_more, checked_place};
+ghost use Rattle.store.specs.Summed.{length_summed, summed_shows};
 
-use crate::bytes::{load, same, save};
-use crate::fault::{StoreFault, writable};
-use crate::store::{Block, Store};
+use crate::bytes::{block_at, overwrite};
+use crate::frame::Frame;
+use crate::lent::LentStore;
+use crate::store::Block;
 
-// Blocks in lent bytes, each with its two Fletcher sums behind it. What it shows it keeps at once.
-#[derive(Drop)]
-pub struct CheckedStore<'a> {
-    bytes: &'a mut [u8],
-    locked: bool,
-}
+// A block with its two Fletcher sums behind it, and right if they are its own.
+pub struct Checked;
 
-impl<'a> CheckedStore<'a> {
-    pub fn new(bytes: &'a mut [u8], protected: bool) -> CheckedStore<'a>
-        ensures bytes { result.bytes.now ≡ bytes.old }
-        ensures named { result.bytes.ghost_name ≡ bytes.entry.ghost_name }
-        ensures protect { result.locked ≡ protected }
-    {
-        CheckedStore {
-            bytes,
-            locked: protected,
-        }
-    }
-}
+// Blocks in lent bytes, each with its sums behind it.
+pub type CheckedStore<'a> = LentStore<'a, Checked>;
 
 // Both sums, once one byte more has gone in.
 fn with_byte(s1: u16, s2: u16, x: u8) -> (u16, u16)
@@ -42,116 +28,36 @@ fn with_byte(s1: u16, s2: u16, x: u8) -> (u16, u16)
 pub fn fletcher(bytes: &[u8]) -> [u8; 2]
     ensures { result ≡ sums bytes.now }
 {
-    let mut s1 = 0;
-    let mut s2 = 0;
+    let (mut s1, mut s2) = (0, 0);
     for x in bytes {
-        let (t1, t2) = with_byte(s1, s2, *x);
-        s1 = t1;
-        s2 = t2;
+        (s1, s2) = with_byte(s1, s2, *x);
     }
     [s1 as u8, s2 as u8]
 }
 
-// The block in a part of 34 bytes, if its sums are right.
-fn right_block(part: &[u8]) -> Option<Block>
-    requires { length part.now ≡ 34 }
-    ensures { result ≡ checked_place part.now }
-{
-    let block = load(part, 0);
-    let sums = fletcher(&block);
-    if same(&part[32..34], &sums) {
-        Some(block)
-    } else {
-        None
-    }
-}
+impl Frame for Checked {
+    ghost WIDTH = { 34 };
 
-// Block `i` of the bytes, if its sums are right.
-fn block_of(bytes: &[u8], i: usize) -> Option<Block>
-    requires { i < checked_count bytes.now }
-    ensures { result ≡ slice_index_or (checked_places bytes.now) i None }
-{
-    let start = i * 34;
-    right_block(&bytes[start..start + 34])
-}
+    ghost place = { checked_place };
 
-// A block with its sums behind it.
-fn with_sums(block: &Block) -> [u8; 34]
-    ensures { result ≡ block.now ++ sums block.now }
-{
-    let mut part = [0; 34];
-    save(&mut part, 0, block);
-    let sums = fletcher(block);
-    save(&mut part, 32, &sums);
-    part
-}
+    ghost framed = { λ b. b ++ sums b };
 
-// Writes block `i` of the bytes, with its sums.
-fn put_block(bytes: &mut [u8], i: usize, block: &Block)
-    requires { i < checked_count bytes.old }
-    ensures shows { checked_places bytes.new ≡ slice_set (checked_places bytes.old) i (Some block.now) }
-    ensures bytes { bytes.new ≡ overwritten bytes.old (i * 34) (block.now ++ sums block.now) }
-    ensures tail { drop (checked_count bytes.old * 34) bytes.new ≡ drop (checked_count bytes.old * 34) bytes.old }
-{
-    let part = with_sums(block);
-    save(bytes, i * 34, &part);
-}
+    const WIDTH: usize = 34;
 
-impl Store for CheckedStore<'_> {
-    type Fault = StoreFault;
-
-    ghost count = { λ s. checked_count s.bytes.now };
-
-    ghost protected = { λ s. s.locked };
-
-    ghost shown = { λ s. checked_places s.bytes.now };
-
-    ghost kept = { λ s. checked_places s.bytes.now };
-
-    ghost lengths = { λ s. checked_lengths s.bytes.now };
-
-    fn count(&self) -> usize {
-        self.bytes.len() / 34
+    fn take(part: &[u8]) -> Option<Block> {
+        let block = block_at(part, 0);
+        let sums = fletcher(&block);
+        (part[32..34] == sums[..]).then_some(block)
     }
 
-    fn protected(&self) -> bool {
-        self.locked
+    fn put(part: &mut [u8], block: &Block) {
+        overwrite(part, 0, block);
+        overwrite(part, 32, &fletcher(block));
     }
 
-    fn read(&self, i: usize) -> Result<Block, StoreFault> {
-        if i >= self.count() {
-            return Err(StoreFault::Range(i));
-        }
-        match block_of(self.bytes, i) {
-            Some(block) => Ok(block),
-            None => Err(StoreFault::Unreadable(i)),
-        }
-    }
+    ghost positive = { omega arith };
 
-    // What the trait asks, then which of the lent bytes change: those of the block and its sums alone, and none past
-    // the last whole 34 bytes.
-    fn write(&mut self, i: usize, block: &Block) -> Result<(), StoreFault>
-        ensures answer { told fault_number fault_block result ≡ write_answer (checked_count self.old.bytes.now) self.old.locked i }
-        ensures count { checked_count self.new.bytes.now ≡ checked_count self.old.bytes.now }
-        ensures protect { self.new.locked ≡ self.old.locked }
-        ensures shows { checked_places self.new.bytes.now ≡ shown_after (checked_count self.old.bytes.now) self.old.locked (checked_places self.old.bytes.now) i block.now }
-        ensures bytes { self.new.bytes.now ≡ after_write (checked_count self.old.bytes.now) self.old.locked i self.old.bytes.now (overwritten self.old.bytes.now (i * 34) (block.now ++ sums block.now)) }
-        ensures tail { drop (checked_count self.old.bytes.now * 34) self.new.bytes.now ≡ drop (checked_count self.old.bytes.now * 34) self.old.bytes.now }
-        ensures named { self.new.bytes.ghost_name ≡ self.old.bytes.ghost_name }
-    {
-        writable(i, self.count(), self.protected())?;
-        put_block(self.bytes, i, block);
-        Ok(())
-    }
+    ghost wide = { length_summed };
 
-    fn flush(&mut self)
-        ensures count { checked_count self.new.bytes.now ≡ checked_count self.old.bytes.now }
-        ensures protect { self.new.locked ≡ self.old.locked }
-        ensures shows { checked_places self.new.bytes.now ≡ checked_places self.old.bytes.now }
-        ensures keeps { checked_places self.new.bytes.now ≡ checked_places self.old.bytes.now }
-        ensures bytes { self.new.bytes.now ≡ self.old.bytes.now }
-        ensures named { self.new.bytes.ghost_name ≡ self.old.bytes.ghost_name }
-    {
-        // Nothing is held back.
-    }
+    ghost back = { summed_shows };
 }

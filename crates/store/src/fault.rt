@@ -1,6 +1,7 @@
 ghost use Rattle.std.specs.Prelude.{◌≡◌, ℕ};
-ghost use Rattle.store.specs.Answers.{told, write_answer};
 ghost use Rattle.store.specs.Faults.{fault_number, fault_block};
+
+pub use crate::asked::{readable, writable};
 
 // All that is known above of any store's fault: its number, and the block that was asked of the store.
 pub trait BlockFault: Sized + Copy {
@@ -41,17 +42,4 @@ impl BlockFault for StoreFault {
             StoreFault::Range(i) | StoreFault::Unreadable(i) | StoreFault::Protected(i) => *i,
         }
     }
-}
-
-// What every store answers to a write of block `i`, from its count and whether it is protected.
-pub fn writable(i: usize, count: usize, protected: bool) -> Result<(), StoreFault>
-    ensures { told fault_number fault_block result ≡ write_answer count protected i }
-{
-    if i >= count {
-        return Err(StoreFault::Range(i));
-    }
-    if protected {
-        return Err(StoreFault::Protected(i));
-    }
-    Ok(())
 }

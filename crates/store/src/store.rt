@@ -1,6 +1,7 @@
 ghost use Rattle.std.specs.Prelude.{◌≡◌, ℕ, Bool, List};
-ghost use Rattle.store.specs.Answers.{told, read_answer, write_answer, shown_after};
+ghost use Rattle.store.specs.Answers.{read_answer, write_answer, shown_after};
 ghost use Rattle.store.specs.Places.{Place, Lengths};
+ghost use Rattle.store.specs.Told.{tells};
 
 use crate::fault::BlockFault;
 
@@ -29,10 +30,10 @@ pub trait Store {
         ensures { result ≡ protected self.now };
 
     fn read(&self, i: usize) -> Result<Block, Self::Fault>
-        ensures { told Self.Fault.BlockFault.number Self.Fault.BlockFault.block result ≡ read_answer (count self.now) (shown self.now) i };
+        ensures { tells Self.Fault.BlockFault result ≡ read_answer (count self.now) (shown self.now) i };
 
     fn write(&mut self, i: usize, block: &Block) -> Result<(), Self::Fault>
-        ensures answer { told Self.Fault.BlockFault.number Self.Fault.BlockFault.block result ≡ write_answer (count self.old) (protected self.old) i }
+        ensures answer { tells Self.Fault.BlockFault result ≡ write_answer (count self.old) (protected self.old) i }
         ensures count { count self.new ≡ count self.old }
         ensures protect { protected self.new ≡ protected self.old }
         ensures shows { shown self.new ≡ shown_after (count self.old) (protected self.old) (shown self.old) i block.now };

@@ -16,8 +16,9 @@ use Rattle.maps.specs.Commands.{found, merged, with_pair, without_key, is_full, 
 use Rattle.maps.specs.Maps.{Kinds, record_order, lent, Laid}
 use Rattle.maps.specs.declared.Answer.{Answer}
 use Rattle.maps.specs.declared.Answer.TheVariants.{New, Joined, Full, Dropped, Absent, Found}
-use Rattle.table.specs.Rows.{Finds, held_by, row_order, row_rule, row_merged, cells_with, cells_without}
-use Rattle.table.proofs.Rules.{ordered, lawful}
+use Rattle.cells.specs.Rows.{row_order, row_rule}
+use Rattle.table.specs.Rows.{Finds, held_by, row_merged, cells_with, cells_without}
+use Rattle.cells.proofs.Rules.{ordered, lawful}
 use Rattle.table.proofs.Maps.{Opened, open_at, opened, closed, moved, found_is, put_in, taken_out, rows_laid}
 
 seen_none : {R S : Type 0} (f : R → S) (o : Option R) → seen f o ≡ None → o ≡ None

@@ -1,4 +1,3 @@
-pub mod Rules
 pub mod Moves
 pub mod Maps
 pub mod Edits

@@ -16,8 +16,9 @@ use Rattle.layout.proofs.Records.{records_layout}
 use Rattle.layout.proofs.Views.{layout_seen, ascending_seen, put_seen, without_seen, get_seen, partly_view, partly_key}
 use Rattle.maps.specs.Commands.{found, merged, with_pair, without_key}
 use Rattle.maps.specs.Maps.{Kinds, record_order, rule, lent, laid, contents, Laid, Lawful as Fits}
-use Rattle.table.specs.Rows.{Cells, held_by, row_key, row_order, row_rule, row_merged, cells_with, cells_without}
-use Rattle.table.proofs.Rules.{ordered, lawful_at}
+use Rattle.cells.specs.Rows.{Cells, row_key, row_order, row_rule}
+use Rattle.table.specs.Rows.{held_by, row_merged, cells_with, cells_without}
+use Rattle.cells.proofs.Rules.{ordered, lawful_at}
 
 -- the first cap of 1024 cells hold the map as rows, and the others are empty
 pub record Opened {K Row V : Type 0} (x : Kinds K Row V) (seed cap : ℕ) (m : List (Record K V)) (cells : List (Option (Record Row V))) : Type 0 where

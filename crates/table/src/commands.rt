@@ -9,7 +9,7 @@ ghost use Rattle.table.specs.Runs.{Stores, Turns, Does, Tells};
 
 use crate::fronts::{insert_front, lookup_front, remove_front};
 use crate::resize::resize;
-use crate::ring::capacity_of;
+use cells::ring::capacity_of;
 use kinds::key::Key;
 use kinds::record::Record;
 use kinds::value::Value;

@@ -2,9 +2,10 @@
 ghost use Rattle.std.specs.Prelude.{◌≡◌, ◌<◌, ◌≤◌, ◌++◌, length, take, drop, replicate, Some, None};
 ghost use Rattle.layout.specs.Cells.{at as in_cell, filled, layout, records_of};
 ghost use Rattle.maps.specs.Maps.{kinds_of};
-ghost use Rattle.table.specs.Rows.{Cells, Finds, held_by, row_key, row_order, row_rule, cells_with, cells_without};
+ghost use Rattle.cells.specs.Rows.{Cells, row_key, row_order, row_rule};
+ghost use Rattle.table.specs.Rows.{Finds, held_by, cells_with, cells_without};
 
-use crate::walks::{gather, insert, lookup, remove};
+use crate::walks::{insert, lookup, remove};
 use kinds::key::Key;
 use kinds::record::Record;
 use kinds::value::Value;
@@ -53,22 +54,4 @@ pub fn remove_front<K: Key, V: Value>(
     ensures { cells.new ≡ cells_without (kinds_of K.Key.kind V.Value.kind) seed (row_key (kinds_of K.Key.kind V.Value.kind) old) (take size cells.old) ++ drop size cells.old }
 {
     remove::<K, V>(&mut cells[..size], seed, place, old);
-}
-
-pub fn gather_front<K: Key, V: Value>(
-    from: &[Option<Record<K::Row, V>>],
-    size: usize,
-    into: &mut [Option<Record<K::Row, V>>],
-    wanted: usize,
-    seed: u32,
-)
-    requires within { size ≤ length from.now }
-    requires fits { wanted ≤ length into.old }
-    requires few { wanted ≤ 1024 }
-    requires sound { Cells (kinds_of K.Key.kind V.Value.kind) seed (take size from.now) }
-    requires room { filled (take size from.now) < wanted }
-    requires empty { into.old ≡ replicate (length into.old) None }
-    ensures { into.new ≡ layout (row_rule (kinds_of K.Key.kind V.Value.kind) seed wanted) (records_of (row_order (kinds_of K.Key.kind V.Value.kind)) (take size from.now)) ++ drop wanted into.old }
-{
-    gather::<K, V>(&from[..size], &mut into[..wanted], seed);
 }

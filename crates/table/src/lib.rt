@@ -4,6 +4,4 @@
 pub mod commands;
 pub mod fronts;
 pub mod resize;
-pub mod ring;
-pub mod rows;
 pub mod walks;

@@ -2,24 +2,12 @@
 ghost use Rattle.std.specs.Prelude.{◌≡◌, ◌-◌, ◌<◌, ◌≤◌, ◌++◌, length, take, replicate, None};
 ghost use Rattle.layout.specs.Cells.{filled, layout, records_of};
 ghost use Rattle.maps.specs.Maps.{kinds_of};
-ghost use Rattle.table.specs.Rows.{Cells, row_order, row_rule};
+ghost use Rattle.cells.specs.Rows.{Cells, row_order, row_rule};
 
-use crate::fronts::gather_front;
+use crate::walks::gather;
 use kinds::key::Key;
 use kinds::record::Record;
 use kinds::value::Value;
-
-// Moves what some cells hold into as many others, and leaves them empty.
-fn move_all<R: Copy>(from: &mut [Option<R>], into: &mut [Option<R>])
-    requires { length from.old ≡ length into.old }
-    ensures moved { into.new ≡ from.old }
-    ensures empty { from.new ≡ replicate (length from.old) None }
-{
-    for i in 0..from.len() {
-        into[i] = from[i];
-        from[i] = None;
-    }
-}
 
 // Lays the records of the first `size` cells out anew in the first `wanted` ones, through as many empty cells of scratch.
 // Its callers show that scratch is empty, and it is left so.
@@ -40,6 +28,7 @@ pub fn resize<K: Key, V: Value>(
     ensures laid { cells.new ≡ layout (row_rule (kinds_of K.Key.kind V.Value.kind) seed wanted) (records_of (row_order (kinds_of K.Key.kind V.Value.kind)) (take size cells.old)) ++ replicate (length cells.old - wanted) None }
     ensures scratch { scratch.new ≡ scratch.old }
 {
-    gather_front::<K, V>(cells, size, scratch, wanted, seed);
-    move_all(scratch, cells);
+    gather::<K, V>(&cells[..size], &mut scratch[..wanted], seed);
+    cells.copy_from_slice(scratch);
+    scratch.fill(None);
 }

@@ -2,10 +2,11 @@
 ghost use Rattle.std.specs.Prelude.{◌≡◌, ◌<◌, ◌≤◌, length, replicate, Some, None};
 ghost use Rattle.layout.specs.Cells.{at as in_cell, filled, layout, records_of};
 ghost use Rattle.maps.specs.Maps.{kinds_of};
-ghost use Rattle.table.specs.Rows.{Cells, Finds, held_by, row_key, row_order, row_rule, cells_with, cells_without};
+ghost use Rattle.cells.specs.Rows.{Cells, row_key, row_order, row_rule};
+ghost use Rattle.table.specs.Rows.{Finds, held_by, cells_with, cells_without};
 
-use crate::ring::{distance, step};
-use crate::rows::{home, is_before};
+use cells::ring::{distance, step};
+use cells::rows::{home, is_before};
 use kinds::key::Key;
 use kinds::record::Record;
 use kinds::value::Value;
@@ -123,11 +124,9 @@ pub fn gather<K: Key, V: Value>(
     requires empty { into.old ≡ replicate (length into.old) None }
     ensures { into.new ≡ layout (row_rule (kinds_of K.Key.kind V.Value.kind) seed (length into.old)) (records_of (row_order (kinds_of K.Key.kind V.Value.kind)) from.now) }
 {
-    for i in 0..from.len() {
-        let cell = from[i];
-        match cell {
-            None => {}
-            Some(record) => insert::<K, V>(into, seed, record),
+    for cell in from {
+        if let Some(record) = cell {
+            insert::<K, V>(into, seed, *record);
         }
     }
 }

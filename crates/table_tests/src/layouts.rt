@@ -1,11 +1,12 @@
 // Where records stand, and what is answered.
+use cells::ring::capacity_of;
+use cells::shape::Shape;
 use kinds::record::Record;
 use maps::{Answer, Command};
 use numbers::papers::Papers;
 use numbers::staff::StaffNumber;
 use sheets::sheet::run_sheet;
 use std::test::Fail;
-use table::ring::capacity_of;
 
 fn enter(
     cells: &mut [Option<Record<u32, Papers>>],
@@ -20,9 +21,11 @@ fn enter(
         &mut scratch,
         &sheet,
         &mut answers,
-        0,
-        count,
-        capacity_of(count),
+        Shape {
+            seed: 0,
+            count,
+            capacity: capacity_of(count),
+        },
     );
     match left {
         Ok(after) => Ok((answers[0], after)),

@@ -1,4 +1,5 @@
 // The refusals of a sheet, in their order.
+use cells::shape::Shape;
 use kinds::record::Record;
 use maps::{Answer, Command};
 use numbers::papers::Papers;
@@ -13,7 +14,12 @@ fn run(
     count: usize,
     capacity: usize,
 ) -> Result<usize, SheetFault> {
-    run_sheet::<StaffNumber, Papers>(cells, spare, sheet, answers, 0, count, capacity)
+    let shape = Shape {
+        seed: 0,
+        count,
+        capacity,
+    };
+    run_sheet::<StaffNumber, Papers>(cells, spare, sheet, answers, shape)
 }
 
 // A sheet on parts of these lengths, of empty cells.

@@ -1,9 +1,11 @@
 -- Making text keys from bytes.
-use Rattle.std.proofs.Common.{◌≡◌, ℕ, ◌+◌, ◌<◌, ◌≤◌, Bool, true, false, cond, ◌&&◌, List, [], ◌∷◌, ◌++◌, map, length, get_or, take, drop, set, Some, None, Ok, Err, Option, Result, sym, refl, ap, ◌∙◌, ap₂, arith}
-use Rattle.std.proofs.lemmas.List.{take_all, drop_more, drop_all, take_more_set, map_more, length-map}
+use Rattle.std.proofs.Common.{◌≡◌, ℕ, ◌+◌, ◌≤◌, Bool, true, false, not, cond, ◌&&◌, List, [], ◌∷◌, ◌++◌, map, length, take, Some, None, Ok, Err, Option, Result, option_map, sym, refl, ap, ◌∙◌, ap₂, arith}
+use Rattle.std.proofs.lemmas.List.{length-map}
+use Rattle.std.proofs.lemmas.Iterator.Adapters.{position_from-zero}
 use Rattle.std.proofs.lemmas.Bool.{and_from, le-leb, cond-true, cond-false}
 use Rattle.std.proofs.lemmas.Bool.Decides.{nat_tests}
-use Rattle.std.specs.List.{list_all}
+use Rattle.std.specs.Char.{to_ascii_uppercase}
+use Rattle.std.specs.List.{list_all, position, position_from}
 use Rattle.text.specs.Faults.{told}
 use Rattle.text.specs.Keys.{text_type}
 use Rattle.text.specs.Letters.{is_allowed, turned, keeps}
@@ -18,23 +20,28 @@ use Rattle.text.specs.Fronts.{keeps_small, same_text}
 use Rattle.text.specs.KeysLemmas.{text_type_laws}
 use Rattle.text.specs.Packing.{not_right, packed_text, packed_kept}
 
--- ---- the loop: the bytes so far are turned, and none of them was bad
-pub turn_more : (bs buf : List ℕ) (i y : ℕ) → i < length bs → i < length buf → y ≡ turned (get_or bs i 0) → take i buf ≡ map turned (take i bs)
-    → take (i + 1) (set buf i y) ≡ map turned (take (i + 1) bs)
-turn_more bs buf i y l h e so_far =
-    take_more_set buf i y h ∙ ap₂ (λ xs z. xs ++ z ∷ []) so_far e ∙ sym (map_more turned bs i 0 l)
+-- ---- the first byte that is not allowed, and the bytes turned
+bad_from : (bs : List ℕ) (p : ℕ) → first_bad (p + 1) bs ≡ option_map (λ i. NotAllowed (i + 1)) (position_from (λ b. not (is_allowed b)) p bs)
+bad_from [] p = refl
+bad_from (b ∷ bs) p = here (is_allowed b) (bad_from bs (p + 1))
+  where
+    here : (t : Bool) → first_bad (p + 1 + 1) bs ≡ option_map (λ i. NotAllowed (i + 1)) (position_from (λ x. not (is_allowed x)) (p + 1) bs)
+        → cond t (first_bad (p + 1 + 1) bs) (Some (NotAllowed (p + 1))) ≡ option_map (λ i. NotAllowed (i + 1)) (cond (not t) (Some p) (position_from (λ x. not (is_allowed x)) (p + 1) bs))
+    here true h = h
+    here false h = refl
 
-pub bad_more : (bs : List ℕ) (i : ℕ) → i < length bs → is_allowed (get_or bs i 0) ≡ true → first_bad (i + 1) (drop i bs) ≡ first_bad (i + 1 + 1) (drop (i + 1) bs)
-bad_more bs i l g = ap (first_bad (i + 1)) (drop_more bs i 0 l) ∙ cond-true (is_allowed (get_or bs i 0)) _ _ g
+pub bad_at : (bs : List ℕ) (o : Option ℕ) → o ≡ position (λ b. not (is_allowed b)) bs → first_bad 1 bs ≡ option_map (λ i. NotAllowed (i + 1)) o
+bad_at bs o h = bad_from bs 0 ∙ ap (option_map (λ i. NotAllowed (i + 1))) (sym (h ∙ position_from-zero (λ b. not (is_allowed b)) bs))
 
-pub bad_here : (bs : List ℕ) (i : ℕ) → i < length bs → is_allowed (get_or bs i 0) ≡ false → first_bad (i + 1) (drop i bs) ≡ Some (NotAllowed (i + 1))
-bad_here bs i l g = ap (first_bad (i + 1)) (drop_more bs i 0 l) ∙ cond-false (is_allowed (get_or bs i 0)) _ _ g
+upper_turned : (b : ℕ) → to_ascii_uppercase b ≡ turned b
+upper_turned b = grind (arith, nat_tests)
 
-pub none_bad : (bs : List ℕ) (i : ℕ) → length bs ≤ i → first_bad (i + 1) (drop i bs) ≡ None
-none_bad bs i h = ap (first_bad (i + 1)) (drop_all i bs h)
+upper_all : (bs zs : List ℕ) → take (length bs) (map to_ascii_uppercase (bs ++ zs)) ≡ map turned bs
+upper_all [] zs = refl
+upper_all (b ∷ bs) zs = ap₂ (λ x xs. x ∷ xs) (upper_turned b) (upper_all bs zs)
 
-pub turn_all : (bs buf : List ℕ) (i : ℕ) → i ≡ length bs → take i buf ≡ map turned (take i bs) → take (length bs) buf ≡ map turned bs
-turn_all bs buf i e h = ap (λ n. take n buf) (sym e) ∙ h ∙ ap (map turned) (take_all i bs (omega arith))
+pub upper_front : (bs ys zs xs : List ℕ) → ys ≡ bs → xs ≡ map to_ascii_uppercase (ys ++ zs) → take (length bs) xs ≡ map turned bs
+upper_front bs ys zs xs e h = ap (take (length bs)) (h ∙ ap (λ l. map to_ascii_uppercase (l ++ zs)) e) ∙ upper_all bs zs
 
 pub in_range : (bs : List ℕ) → 1 ≤ length bs → length bs ≤ 24 → text_fault bs ≡ first_bad 1 bs
 in_range bs l h = cond-true (right_length (length bs)) _ _ (and_from _ _ (le-leb 1 (length bs) l) (le-leb (length bs) 24 h))

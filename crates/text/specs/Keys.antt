@@ -4,15 +4,14 @@ use Rattle.kinds.specs.Kinds.{KeyKind}
 use Rattle.text.specs.Letters.{keeps}
 use Rattle.text.specs.Rows.{row_text, row_kept}
 use Rattle.text.specs.Texts.{TextType, kind_of}
-use Rattle.text.specs.Words.{row_of}
 use Rattle.text.specs.declared.key.TextKey.{TextKey}
 use Rattle.text.specs.declared.row.TextRow.{TextRow}
 
 abbrev pub text_row : TextKey → TextRow
-text_row k = row_of k.len k.head k.middle k.tail
+text_row k = k.row
 
 abbrev pub key_from : (r : TextRow) → row_kept keeps r ≡ true → TextKey
-key_from r e = record { len = r.len; head = r.head; middle = r.middle; tail = r.tail; kept = e }
+key_from r e = record { row = r; kept = e }
 
 abbrev pub text_type : TextType TextKey
 text_type = record { number = 2; keeps = keeps; row = text_row; make = key_from }

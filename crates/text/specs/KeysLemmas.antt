@@ -19,10 +19,7 @@ keeps_byte b h = grind (arith, nat_tests)
 
 pub same_row : (j k : TextKey) → text_row j ≡ text_row k → j ≡ k
 same_row j k e = λ i. record {
-  len = (e i).len;
-  head = (e i).head;
-  middle = (e i).middle;
-  tail = (e i).tail;
+  row = e i;
   kept = is_prop→PathP (λ i. row_kept keeps (e i) ≡ true) (λ i. Bool-set (row_kept keeps (e i)) true) j.kept k.kept i;
 }
 
@@ -41,5 +38,5 @@ text_laws = kind_laws text_type text_type_laws
 pub key_kept : (k : TextKey) → Kept keeps (text_row k)
 key_kept k = kept text_type text_type_laws k
 
-pub key_length : (k : TextKey) → length (text k) ≡ k.len
+pub key_length : (k : TextKey) → length (text k) ≡ k.row.len
 key_length k = text_length (text_row k) (key_kept k).few

@@ -10,16 +10,12 @@ const PRIME: u32 = 16777619;
 fn mix(sum: u32, byte: u8) -> u32
     ensures { result ≡ mixed sum byte }
 {
-    (sum ^ (byte as u32)).wrapping_mul(PRIME)
+    (sum ^ u32::from(byte)).wrapping_mul(PRIME)
 }
 
 // The sum of the bytes, from the basis xor the seed.
 pub fn fnv1a(seed: u32, bytes: &[u8]) -> u32
     ensures { result ≡ fnv seed bytes.now }
 {
-    let mut sum = BASIS ^ seed;
-    for byte in bytes {
-        sum = mix(sum, *byte);
-    }
-    sum
+    bytes.iter().fold(BASIS ^ seed, |sum, byte| mix(sum, *byte))
 }

@@ -1,14 +1,14 @@
 // What lent memory holds of a text key: plain data, which need not be a key's. Nothing here knows of letters.
-ghost use Rattle.std.specs.Prelude.{◌≡◌, ◌+◌, ◌<◌, ◌≤◌, length, slice_index};
+ghost use Rattle.std.specs.Prelude.{◌≡◌, ◌<◌, ◌≤◌, IsTrue, length, slice_index};
 ghost use Rattle.std.specs.List.{list_all};
-ghost use Rattle.text.specs.Rows.{is_zero, row_code, row_order, row_hash, row_front};
-ghost use Rattle.text.specs.Words.{unpacked, word_at, packed};
+ghost use Rattle.text.specs.Rows.{is_zero, right_length, row_text, row_code, row_order, row_hash, row_front};
+ghost use Rattle.text.specs.Words.{unpacked, packed};
 
 use crate::fnv::fnv1a;
 use std::cmp::Ordering;
 
 // The length, and 24 bytes in three words, of each word the highest byte first.
-#[derive(Clone, Copy)]
+#[derive(Clone, Copy, PartialEq, Eq, Debug)]
 pub struct TextRow {
     pub len: u8,
     pub head: u64,
@@ -16,53 +16,35 @@ pub struct TextRow {
     pub tail: u64,
 }
 
-// The byte at i, zero behind the end.
-fn byte_at(text: &[u8], i: usize) -> u8
-    ensures { result ≡ slice_index text.now i }
+// Whether a text may have so many bytes.
+pub(crate) fn is_length(n: usize) -> bool
+    ensures value { result ≡ right_length n }
+    ensures bounds { IsTrue result → (1 ≤ n) × (n ≤ 24) }
 {
-    if i < text.len() { text[i] } else { 0 }
-}
-
-// The word of the eight bytes from `at` on, zeros behind the end.
-fn word(text: &[u8], at: usize) -> u64
-    requires { at ≤ 16 }
-    ensures { result ≡ word_at text.now at }
-{
-    u64::from_be_bytes([
-        byte_at(text, at),
-        byte_at(text, at + 1),
-        byte_at(text, at + 2),
-        byte_at(text, at + 3),
-        byte_at(text, at + 4),
-        byte_at(text, at + 5),
-        byte_at(text, at + 6),
-        byte_at(text, at + 7),
-    ])
+    (1..=24).contains(&n)
 }
 
 // Whether all bytes are zeros.
 pub(crate) fn all_zero(bytes: &[u8]) -> bool
     ensures { result ≡ list_all is_zero bytes.now }
 {
-    for byte in bytes {
-        if *byte != 0 {
-            return false;
-        }
-    }
-    true
+    bytes.iter().all(|byte| *byte == 0)
 }
 
 impl TextRow {
-    // The row of a text.
+    // The row of a text, zeros behind its end.
     pub(crate) fn pack(text: &[u8]) -> TextRow
         requires { length text.now ≤ 24 }
         ensures { result ≡ packed text.now }
     {
+        let mut bytes = [0; 24];
+        bytes[..text.len()].copy_from_slice(text);
+        let (words, _) = bytes.as_chunks::<8>();
         TextRow {
             len: text.len() as u8,
-            head: word(text, 0),
-            middle: word(text, 8),
-            tail: word(text, 16),
+            head: u64::from_be_bytes(words[0]),
+            middle: u64::from_be_bytes(words[1]),
+            tail: u64::from_be_bytes(words[2]),
         }
     }
 
@@ -70,61 +52,57 @@ impl TextRow {
     pub fn bytes(&self) -> [u8; 24]
         ensures { result ≡ unpacked self.now }
     {
-        let a = self.head.to_be_bytes();
-        let b = self.middle.to_be_bytes();
-        let c = self.tail.to_be_bytes();
-        [
-            a[0], a[1], a[2], a[3], a[4], a[5], a[6], a[7], b[0], b[1], b[2], b[3], b[4], b[5],
-            b[6], b[7], c[0], c[1], c[2], c[3], c[4], c[5], c[6], c[7],
-        ]
+        let mut bytes = [0; 24];
+        bytes[..8].copy_from_slice(&self.head.to_be_bytes());
+        bytes[8..16].copy_from_slice(&self.middle.to_be_bytes());
+        bytes[16..].copy_from_slice(&self.tail.to_be_bytes());
+        bytes
+    }
+
+    // How many of the bytes are the text's.
+    pub(crate) fn text_len(&self) -> usize
+        ensures { result ≡ length (row_text self.now) }
+    {
+        usize::from(self.len).min(24)
     }
 
     // The byte of the code at i: the length, then the text.
     pub(crate) fn code_at(&self, i: usize) -> u8
-        requires few { self.now.len ≤ 24 }
-        requires within { i ≤ self.now.len }
+        requires { i < length (row_code self.now) }
         ensures { result ≡ slice_index (row_code self.now) i }
     {
-        if i == 0 {
-            return self.len;
+        match i {
+            0 => self.len,
+            _ => self.bytes()[i - 1],
         }
-        let bytes = self.bytes();
-        bytes[i - 1]
     }
 
     // Byte by byte, a beginning before its continuation.
     pub(crate) fn compare(&self, other: &TextRow) -> Ordering
-        requires left { self.now.len ≤ 24 }
-        requires right { other.now.len ≤ 24 }
         ensures { result ≡ row_order self.now other.now }
     {
         let these = self.bytes();
         let those = other.bytes();
-        let left = &these[..self.len as usize];
-        let right = &those[..other.len as usize];
-        left.cmp(&right)
+        these[..self.text_len()].cmp(&those[..other.text_len()])
     }
 
     // FNV-1a of the text, without its length.
     pub(crate) fn hash(&self, seed: u32) -> u32
-        requires { self.now.len ≤ 24 }
         ensures { result ≡ row_hash seed self.now }
     {
         let bytes = self.bytes();
-        fnv1a(seed, &bytes[..self.len as usize])
+        fnv1a(seed, &bytes[..self.text_len()])
     }
 
     // The row of the text that stands whole behind its length byte, of 1 to 24 bytes.
     pub(crate) fn read(bytes: &[u8]) -> Option<TextRow>
         ensures { result ≡ row_front bytes.now }
     {
-        if bytes.len() == 0 {
+        let (len, rest) = bytes.split_first()?;
+        let n = usize::from(*len);
+        if !is_length(n) {
             return None;
         }
-        let n = bytes[0] as usize;
-        if n < 1 || 24 < n || bytes.len() <= n {
-            return None;
-        }
-        Some(TextRow::pack(&bytes[1..n + 1]))
+        Some(TextRow::pack(rest.get(..n)?))
     }
 }

@@ -7,18 +7,14 @@ use std::test::Fail;
 
 // Number and place of the refusal, if there is one.
 fn refusal(bytes: &[u8]) -> Option<(u8, usize)> {
-    match TextKey::new(bytes) {
-        Ok(_) => None,
-        Err(fault) => Some((fault.number(), fault.place())),
-    }
+    TextKey::new(bytes)
+        .err()
+        .map(|fault| (fault.number(), fault.place()))
 }
 
 // The length of the code that stands at the front, if one does.
 fn code_len(bytes: &[u8]) -> Option<usize> {
-    match TextKey::read(bytes) {
-        Ok(read) => Some(read.1),
-        Err(_) => None,
-    }
+    TextKey::read(bytes).ok().map(|(_, n)| n)
 }
 
 // The published vectors.

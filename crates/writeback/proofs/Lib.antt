@@ -1,6 +1,6 @@
 pub mod Slotted
+pub mod Found
 pub mod Four
-pub mod Filtered
 pub mod Overlaid
 pub mod Stacked
 pub mod Ruled

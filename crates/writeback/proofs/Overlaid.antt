@@ -1,8 +1,13 @@
 -- What shows of held blocks over a store below.
-use Rattle.std.proofs.Common.{◌≡◌, ℕ, ◌-◌, ◌<◌, ◌≤◌, Bool, true, false, cond, not, eqb, ltb, ◌≢◌, List, [], ◌∷◌, ◌++◌, length, get_or, set, Some, None, sym, refl, ap, ◌∙◌, ⊎_elim, arith}
+use Rattle.std.proofs.Common.{◌≡◌, ℕ, ◌-◌, ◌<◌, ◌≤◌, Bool, true, false, cond, not, eqb, ltb, ◌≢◌, List, [], ◌∷◌, ◌++◌, length, get_or, set, Some, None, Ok, Err, Result, sym, refl, ap, ◌∙◌, ⊎_elim, arith}
 use Rattle.std.proofs.lemmas.List.{get_or-set_same, get_or-set_other, set-set, set_comm, take-append-drop}
 use Rattle.std.proofs.lemmas.Bool.{cases_eq, cases_lt, eq-eqb, ne_eqb, le-ltb}
-use Rattle.store.specs.Answers.{given, refused, unreadable, read_answer, shown_after}
+use Rattle.store.specs.Answers.{given, refused, unreadable, told, read_answer, shown_after}
+use Rattle.store.specs.Faults.{fault_number, fault_block}
+use Rattle.store.specs.Told.{tells}
+use Rattle.store.specs.declared.fault.BlockFault.{Ghosts}
+use Rattle.store.specs.declared.fault.StoreFault.TheVariants.{Unreadable}
+use Rattle.store.proofs.Mapped.{as_fault}
 use Rattle.store.specs.Places.{Place}
 use Rattle.store.proofs.Told.{read_block, read_fault, gives_block, gives_fault, taken}
 use Rattle.writeback.specs.Overlays.{overlay, length_after}
@@ -77,11 +82,17 @@ module _ (n : ℕ) (locked : Bool) (xs : List Place) (ss : List Slot) (i : ℕ) 
   unfolding or_else
   bare e = overlay_at locked ss n xs i lt sized ∙ ap (λ p. or_else p (get_or xs i None)) (sym e)
 
-  pub below_read : (b : List ℕ) → None ≡ held_place locked i ss → given b ≡ read_answer n xs i → given b ≡ read_answer n (overlay n locked xs ss) i
+  below_read : (b : List ℕ) → None ≡ held_place locked i ss → given b ≡ read_answer n xs i → given b ≡ read_answer n (overlay n locked xs ss) i
   below_read b e r = gives_block n _ i lt b (bare e ∙ read_block n xs i lt b r)
 
-  pub below_fault : (m k : ℕ) → None ≡ held_place locked i ss → refused m k ≡ read_answer n xs i → unreadable i ≡ read_answer n (overlay n locked xs ss) i
+  below_fault : (m k : ℕ) → None ≡ held_place locked i ss → refused m k ≡ read_answer n xs i → unreadable i ≡ read_answer n (overlay n locked xs ss) i
   below_fault m k e r = gives_fault n _ i lt (bare e ∙ read_fault n xs i lt m k r)
+
+  -- what a read below tells, where its fault was put in the place of another
+  pub below_told : {F : Type 0} (fault : Ghosts F) (r : Result (List ℕ) F) → None ≡ held_place locked i ss → tells fault r ≡ read_answer n xs i
+      → told fault_number fault_block (as_fault (Unreadable i) r) ≡ read_answer n (overlay n locked xs ss) i
+  below_told fault (Ok b) e r = below_read b e r
+  below_told fault (Err f) e r = below_fault _ _ e r
 
 overlay_append : (n : ℕ) (locked : Bool) (xs : List Place) (ss ts : List Slot) → overlay n locked xs (ss ++ ts) ≡ overlay n locked (overlay n locked xs ss) ts
 overlay_append n locked xs [] ts = refl

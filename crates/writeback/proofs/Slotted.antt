@@ -1,7 +1,7 @@
 -- Lists of held blocks: no place twice, and what a written block changes.
-use Rattle.std.proofs.Common.{◌≡◌, ℕ, Bool, true, false, cond, not, eqb, List, [], ◌∷◌, ◌++◌, sym, refl, ap, ◌∙◌}
+use Rattle.std.proofs.Common.{◌≡◌, ℕ, zero, suc, ◌-◌, Bool, true, false, cond, not, eqb, List, [], ◌∷◌, ◌++◌, length, drop, sym, refl, ap, ◌∙◌}
 use Rattle.std.proofs.lemmas.Bool.{and_parts, and_from, or_parts, or_from, not-true, not_from_false, eq-eqb, ne_eqb, both_ways}
-use Rattle.writeback.specs.Slots.{is_held, apart, without, renewed}
+use Rattle.writeback.specs.Slots.{is_held, apart, without, renewed, newest_four}
 use Rattle.writeback.specs.declared.slot.Slot.{Slot}
 
 -- one slot more in front of those for other places than i: kept, or passed over
@@ -53,3 +53,11 @@ apart_rest s ss hs e h = (and_parts (not (is_held s.at ss)) (apart ss) (ap apart
 
 pub apart_renewed : (ss hs : List Slot) (s : Slot) → hs ≡ renewed ss s → apart ss ≡ true → apart hs ≡ true
 apart_renewed ss hs s e h = ap apart e ∙ apart_push (without s.at ss) s (apart_without s.at ss h) (not_in_without s.at ss)
+
+apart_drop : (k : ℕ) (hs : List Slot) → apart hs ≡ true → apart (drop k hs) ≡ true
+apart_drop zero hs h = h
+apart_drop (suc k) [] h = refl
+apart_drop (suc k) (s ∷ ss) h = apart_drop k ss (and_parts (not (is_held s.at ss)) (apart ss) h).1
+
+pub apart_newest : (ss hs : List Slot) → hs ≡ newest_four ss → apart ss ≡ true → apart hs ≡ true
+apart_newest ss hs e h = ap apart e ∙ apart_drop (length ss - 4) ss h

@@ -5,21 +5,22 @@ use Rattle.layers.specs.Layers.{offset_count, offset_places, mirror_places}
 use Rattle.store.specs.Lent.{plain_count, plain_places}
 use Rattle.store.specs.Places.{Place}
 use Rattle.store.specs.Sums.{checked_count, checked_places}
-use Rattle.store.specs.declared.checked.CheckedStore.{CheckedStore}
+use Rattle.store.specs.declared.checked.Checked.{Checked}
+use Rattle.store.specs.declared.lent.LentStore.{LentStore}
 use Rattle.layers.specs.declared.mirror.Mirror.{Mirror}
 use Rattle.layers.specs.declared.offset.Offset.{Offset}
-use Rattle.store.specs.declared.plain.PlainStore.{PlainStore}
+use Rattle.store.specs.declared.plain.Plain.{Plain}
 use Rattle.writeback.specs.Holds.{held_list}
 use Rattle.writeback.specs.Overlays.{overlay}
 use Rattle.writeback.specs.declared.write_back.WriteBack.{WriteBack}
 
 abbrev pub Stacked : Type 0
-Stacked = WriteBack (Mirror (Offset PlainStore) CheckedStore)
+Stacked = WriteBack (Mirror (Offset (LentStore Plain)) (LentStore Checked))
 
-abbrev left_count : Offset PlainStore → ℕ
+abbrev left_count : Offset (LentStore Plain) → ℕ
 left_count o = offset_count o.first o.wished (plain_count o.below.bytes.now)
 
-abbrev left_places : Offset PlainStore → List Place
+abbrev left_places : Offset (LentStore Plain) → List Place
 left_places o = offset_places o.first o.wished (plain_count o.below.bytes.now) (plain_places o.below.bytes.now)
 
 abbrev pub stack_count : Stacked → ℕ

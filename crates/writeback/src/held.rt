@@ -1,16 +1,14 @@
-ghost use Rattle.std.specs.Prelude.{◌≡◌, ◌≤◌, true, length, take};
+ghost use Rattle.std.specs.Prelude.{◌≡◌, true};
 ghost use Rattle.writeback.specs.Slots.{apart};
 
 use crate::slot::Slot;
+use arrayvec::ArrayVec;
 
 pub mod ops;
 
-// Up to four written blocks, the longest held first, and no block twice.
+// Up to four written blocks, the longest held first, and no block twice. They lie in the value itself, so there is no heap.
 #[derive(Drop)]
 pub struct Held {
-    slots: [Slot; 4],
-    len: usize,
-    ghost wide: { length slots ≡ 4 },
-    ghost few: { len ≤ 4 },
-    ghost once: { apart (take len slots) ≡ true },
+    slots: ArrayVec<Slot, 4>,
+    ghost once: { apart slots.items ≡ true },
 }

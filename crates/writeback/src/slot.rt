@@ -1,7 +1,7 @@
 use store::store::Block;
 
 // A written block that is held back, and where it goes.
-#[derive(Clone, Copy)]
+#[derive(Clone, Copy, Default)]
 pub struct Slot {
     pub at: usize,
     pub block: Block,

@@ -1,6 +1,6 @@
 ghost use Rattle.std.specs.Prelude.{◌≡◌, min, [], OnOk};
-ghost use Rattle.store.specs.Answers.{told, back_answer, shown_after};
-ghost use Rattle.store.specs.Faults.{fault_number, fault_block};
+ghost use Rattle.store.specs.Stores.{back_told, Writes};
+ghost use Rattle.store.specs.Told.{tells};
 ghost use Rattle.layers.specs.Layers.{offset_count, offset_places, mirror_places};
 ghost use Rattle.store.specs.Lent.{plain_count, plain_places};
 ghost use Rattle.store.specs.Sums.{checked_count, checked_places};
@@ -11,10 +11,10 @@ use crate::write_back::WriteBack;
 use layers::mirror::Mirror;
 use layers::offset::Offset;
 use store::checked::CheckedStore;
-use store::fault::StoreFault;
+use store::fault::{BlockFault, StoreFault};
 use store::plain::PlainStore;
 use store::round_trip::round_trip;
-use store::store::Block;
+use store::store::{Block, Store};
 
 // The stack that is delivered.
 pub type Stack<'a> = WriteBack<Mirror<Offset<PlainStore<'a>>, CheckedStore<'a>>>;
@@ -56,10 +56,8 @@ pub fn stack<'a>(
 
 // A block written to the stack, flushed and read again: what holds of any store, at the stack.
 pub fn stack_round_trip(stack: &mut Stack<'_>, i: usize, block: &Block) -> Result<Block, StoreFault>
-    ensures answer { told fault_number fault_block result ≡ back_answer (stack_count stack.old) (stack_protected stack.old) i block.now }
-    ensures count { stack_count stack.new ≡ stack_count stack.old }
-    ensures protect { stack_protected stack.new ≡ stack_protected stack.old }
-    ensures shows { stack_shown stack.new ≡ shown_after (stack_count stack.old) (stack_protected stack.old) (stack_shown stack.old) i block.now }
+    ensures answer { tells ⟦<StoreFault as BlockFault>⟧ result ≡ back_told ⟦<Stack<'static> as Store>⟧ stack.old i block.now }
+    ensures writes { Writes ⟦<Stack<'static> as Store>⟧ i block.now stack.old stack.new }
     ensures keeps { OnOk result (stack_kept stack.new ≡ stack_shown stack.new) }
 {
     round_trip(stack, i, block)

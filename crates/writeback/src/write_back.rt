@@ -1,6 +1,6 @@
 ghost use Rattle.std.specs.Prelude.{◌≡◌, ◌<◌, false, [], Some, slice_set};
-ghost use Rattle.store.specs.Answers.{told, read_answer, write_answer, shown_after, after_write};
-ghost use Rattle.store.specs.Faults.{fault_number, fault_block};
+ghost use Rattle.store.specs.Stores.{read_told, write_told, once_written, Fixed, Writes, Flushes};
+ghost use Rattle.store.specs.Told.{tells};
 ghost use Rattle.writeback.specs.Holds.{held_list};
 ghost use Rattle.writeback.specs.Overlaid.{overlaid};
 ghost use Rattle.writeback.specs.Overlays.{overlay, overlay_lengths};
@@ -8,7 +8,7 @@ ghost use Rattle.writeback.specs.Slots.{held_place, renewed, newest_four, beyond
 
 use crate::held::Held;
 use crate::slot::Slot;
-use store::fault::{StoreFault, writable};
+use store::fault::{BlockFault, StoreFault, readable, writable};
 use store::store::{Block, Store};
 
 // A store that holds back up to four written blocks.
@@ -44,21 +44,17 @@ impl<S: Store> WriteBack<S> {
     // Block `i`, which the store below has.
     fn read_within(&self, i: usize) -> Result<Block, StoreFault>
         requires { i < S.Store.count self.now.below }
-        ensures { told fault_number fault_block result ≡ read_answer (S.Store.count self.now.below) (overlaid S.Store.count S.Store.protected S.Store.shown self.now) i }
+        ensures { tells ⟦<StoreFault as BlockFault>⟧ result ≡ read_told ⟦<WriteBack<S> as Store>⟧ self.now i }
     {
-        if let Some(block) = self.held_block(i) {
-            return Ok(block);
-        }
-        match self.below.read(i) {
-            Ok(block) => Ok(block),
-            Err(_) => Err(StoreFault::Unreadable(i)),
+        match self.held_block(i) {
+            Some(block) => Ok(block),
+            None => self.below.read(i).map_err(|_| StoreFault::Unreadable(i)),
         }
     }
 
     // Holds a written block, and sends the longest held below to make way where there would be five.
     fn make_way(&mut self, slot: Slot)
-        ensures count { S.Store.count self.new.below ≡ S.Store.count self.old.below }
-        ensures protect { S.Store.protected self.new.below ≡ S.Store.protected self.old.below }
+        ensures fixed { Fixed S.Store self.old.below self.new.below }
         ensures held { held_list self.new.held ≡ newest_four (renewed (held_list self.old.held) slot) }
         ensures below { S.Store.shown self.new.below ≡ overlay (S.Store.count self.old.below) (S.Store.protected self.old.below) (S.Store.shown self.old.below) (beyond_four (renewed (held_list self.old.held) slot)) }
     {
@@ -70,9 +66,8 @@ impl<S: Store> WriteBack<S> {
     // Takes a write of block `i`, which the store below has and would take.
     fn take_write(&mut self, i: usize, block: &Block)
         requires { (i < S.Store.count self.old.below) × (S.Store.protected self.old.below ≡ false) }
-        ensures count { S.Store.count self.new.below ≡ S.Store.count self.old.below }
-        ensures protect { S.Store.protected self.new.below ≡ S.Store.protected self.old.below }
-        ensures shows { overlaid S.Store.count S.Store.protected S.Store.shown self.new ≡ slice_set (overlaid S.Store.count S.Store.protected S.Store.shown self.old) i (Some block.now) }
+        ensures fixed { Fixed S.Store self.old.below self.new.below }
+        ensures shows { overlaid S.Store self.new ≡ slice_set (overlaid S.Store self.old) i (Some block.now) }
         ensures held { held_list self.new.held ≡ newest_four (renewed (held_list self.old.held) record { at = i; block = block.now }) }
         ensures below { S.Store.shown self.new.below ≡ overlay (S.Store.count self.old.below) (S.Store.protected self.old.below) (S.Store.shown self.old.below) (beyond_four (renewed (held_list self.old.held) record { at = i; block = block.now })) }
     {
@@ -91,7 +86,7 @@ impl<S: Store> Store for WriteBack<S> {
 
     ghost protected = { λ s. S.Store.protected s.below };
 
-    ghost shown = { overlaid S.Store.count S.Store.protected S.Store.shown };
+    ghost shown = { overlaid S.Store };
 
     ghost kept = { λ s. S.Store.kept s.below };
 
@@ -106,21 +101,17 @@ impl<S: Store> Store for WriteBack<S> {
     }
 
     fn read(&self, i: usize) -> Result<Block, StoreFault> {
-        if i >= self.count() {
-            return Err(StoreFault::Range(i));
-        }
+        readable(i, self.count())?;
         self.read_within(i)
     }
 
     // What the trait asks, then that a refused write is not held, and that a taken one is held as the newest while the
     // longest held goes below to make way.
     fn write(&mut self, i: usize, block: &Block) -> Result<(), StoreFault>
-        ensures answer { told fault_number fault_block result ≡ write_answer (S.Store.count self.old.below) (S.Store.protected self.old.below) i }
-        ensures count { S.Store.count self.new.below ≡ S.Store.count self.old.below }
-        ensures protect { S.Store.protected self.new.below ≡ S.Store.protected self.old.below }
-        ensures shows { overlaid S.Store.count S.Store.protected S.Store.shown self.new ≡ shown_after (S.Store.count self.old.below) (S.Store.protected self.old.below) (overlaid S.Store.count S.Store.protected S.Store.shown self.old) i block.now }
-        ensures held { held_list self.new.held ≡ after_write (S.Store.count self.old.below) (S.Store.protected self.old.below) i (held_list self.old.held) (newest_four (renewed (held_list self.old.held) record { at = i; block = block.now })) }
-        ensures below { S.Store.shown self.new.below ≡ after_write (S.Store.count self.old.below) (S.Store.protected self.old.below) i (S.Store.shown self.old.below) (overlay (S.Store.count self.old.below) (S.Store.protected self.old.below) (S.Store.shown self.old.below) (beyond_four (renewed (held_list self.old.held) record { at = i; block = block.now }))) }
+        ensures answer { tells ⟦<StoreFault as BlockFault>⟧ result ≡ write_told ⟦<WriteBack<S> as Store>⟧ self.old i }
+        ensures writes { Writes ⟦<WriteBack<S> as Store>⟧ i block.now self.old self.new }
+        ensures held { held_list self.new.held ≡ once_written ⟦<WriteBack<S> as Store>⟧ self.old i (held_list self.old.held) (newest_four (renewed (held_list self.old.held) record { at = i; block = block.now })) }
+        ensures below { S.Store.shown self.new.below ≡ once_written ⟦<WriteBack<S> as Store>⟧ self.old i (S.Store.shown self.old.below) (overlay (S.Store.count self.old.below) (S.Store.protected self.old.below) (S.Store.shown self.old.below) (beyond_four (renewed (held_list self.old.held) record { at = i; block = block.now }))) }
     {
         writable(i, self.count(), self.protected())?;
         self.take_write(i, block);
@@ -129,12 +120,9 @@ impl<S: Store> Store for WriteBack<S> {
 
     // What the trait asks, then that all that was held is below.
     fn flush(&mut self)
-        ensures count { S.Store.count self.new.below ≡ S.Store.count self.old.below }
-        ensures protect { S.Store.protected self.new.below ≡ S.Store.protected self.old.below }
-        ensures shows { overlaid S.Store.count S.Store.protected S.Store.shown self.new ≡ overlaid S.Store.count S.Store.protected S.Store.shown self.old }
-        ensures keeps { S.Store.kept self.new.below ≡ overlaid S.Store.count S.Store.protected S.Store.shown self.old }
+        ensures flushes { Flushes ⟦<WriteBack<S> as Store>⟧ self.old self.new }
         ensures held { held_list self.new.held ≡ [] }
-        ensures below { S.Store.shown self.new.below ≡ overlaid S.Store.count S.Store.protected S.Store.shown self.old }
+        ensures below { S.Store.shown self.new.below ≡ overlaid S.Store self.old }
     {
         while let Some(next) = self.held.pop() {
             let _ = self.below.write(next.at, &next.block);

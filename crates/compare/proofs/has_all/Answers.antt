@@ -5,7 +5,7 @@ use Rattle.layout.specs.Cells.{at}
 use Rattle.layout.proofs.Records.{some_inside}
 use Rattle.layout.proofs.Tests.{some_none}
 use Rattle.maps.specs.Maps.{Laid, kinds_of}
-use Rattle.table.proofs.Rules.{read_at}
+use Rattle.cells.proofs.Rules.{read_at}
 use Rattle.compare.specs.Compare.{Lends}
 use Rattle.compare.proofs.Same.{no, lends_read}
 use Rattle.compare.proofs.has_all.Goals.{in-None, in-Some+else-not-has_record}

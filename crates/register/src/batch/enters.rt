@@ -7,6 +7,7 @@ ghost use Rattle.register.specs.Worlds.{open_world};
 
 use super::Open;
 use crate::listing::copy_filled;
+use cells::ring::capacity_of;
 use contents::fault::RegisterFault;
 use kinds::key::Key;
 use kinds::record::Record;
@@ -14,7 +15,6 @@ use kinds::value::Value;
 use maps::{Answer, Command};
 use sheets::sheet::run_sheet;
 use store::store::Store;
-use table::ring::capacity_of;
 
 // Runs the commands of a sheet in turn.
 pub fn enter<S: Store, K: Key, V: Value>(
@@ -27,17 +27,9 @@ pub fn enter<S: Store, K: Key, V: Value>(
     ensures { Step (setup K.Key.kind V.Value.kind) (open_world S.Store batch.old cells.old) (enter_event S.Fault.BlockFault sheet.now scratch.old answers.old result (open_world S.Store batch.new cells.new) scratch.new answers.new) }
 {
     batch.check_kinds::<K, V>()?;
-    let count = run_sheet::<K, V>(
-        cells,
-        scratch,
-        sheet,
-        answers,
-        batch.seed,
-        batch.count,
-        batch.capacity,
-    )?;
-    batch.count = count;
-    batch.capacity = capacity_of(count);
+    let count = run_sheet::<K, V>(cells, scratch, sheet, answers, batch.shape)?;
+    batch.shape.count = count;
+    batch.shape.capacity = capacity_of(count);
     Ok(())
 }
 
@@ -49,8 +41,8 @@ pub fn list<S: Store, K: Key, V: Value>(
 ) -> Result<usize, RegisterFault<S::Fault>>
     ensures { Step (setup K.Key.kind V.Value.kind) (open_world S.Store batch.now cells.now) (list_event S.Fault.BlockFault output.old result (open_world S.Store batch.now cells.now) output.new) }
 {
-    batch.check_lent::<K, V>(cells.len(), output.len(), batch.count)?;
+    batch.check_lent::<K, V>(cells.len(), output.len(), batch.shape.count)?;
     batch.check_cells::<K, V>(cells)?;
     copy_filled(cells, output);
-    Ok(batch.count)
+    Ok(batch.shape.count)
 }

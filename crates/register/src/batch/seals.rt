@@ -7,6 +7,7 @@ ghost use Rattle.register.specs.Seals.{SealSeen, seal_event};
 ghost use Rattle.register.specs.Worlds.{open_world};
 
 use super::{Open, Sealing, Token};
+use cells::shape::Shape;
 use contents::fault::RegisterFault;
 use image_save::save::save_image;
 use image_writer::writer::image_len;
@@ -33,7 +34,7 @@ fn check_seal<S: Store, K: Key, V: Value>(
     let blocks = batch.store.count();
     batch.check_lent::<K, V>(cells.len(), work.len() / 32, blocks)?;
     batch.check_cells::<K, V>(cells)?;
-    let long = image_len::<K, V>(cells, batch.count);
+    let long = image_len::<K, V>(cells, batch.shape.count);
     if more(long, blocks) {
         return Err(RegisterFault::Short);
     }
@@ -54,7 +55,8 @@ fn seal_batch<S: Store, K: Key, V: Value>(
     if let Err(fault) = check_seal::<S, K, V>(&batch, cells, work) {
         return Err((batch, token, fault));
     }
-    save_image::<S, K, V>(&mut batch.store, cells, batch.count, batch.seed, work);
+    let Shape { seed, count, .. } = batch.shape;
+    save_image::<S, K, V>(&mut batch.store, cells, count, seed, work);
     cells.fill(None);
     Ok(batch.close(token))
 }

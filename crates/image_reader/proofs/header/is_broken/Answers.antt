@@ -1,7 +1,7 @@
-use Rattle.std.proofs.Common.{◌∙◌, arith}
+use Rattle.std.proofs.Common.{◌≡◌, not, ltb, ◌||◌, ◌∙◌, arith, tests}
 use Rattle.std.proofs.lemmas.Bool.Decides.{nat_tests}
 use Rattle.maps.specs.Maps.{kinds_of}
-use Rattle.image_reader.proofs.Rules.{edition_rule, key_rule, value_rule, power_low, power_high, count_rule, free_rule, zero_rule}
+use Rattle.image_reader.proofs.Rules.{edition_rule, key_rule, value_rule, power_rule, count_rule, free_rule, zero_rule}
 use Rattle.image_reader.proofs.header.is_broken.Goals as goal
 
 pub returns-in-0 : goal.returns-in-0
@@ -13,11 +13,8 @@ returns-in-1 g c = key_rule _ _ _ _ c.byte_at-b.ensures _ c.kind_number.ensures 
 pub returns-in-2 : goal.returns-in-2
 returns-in-2 g c = value_rule _ _ _ _ c.byte_at-b.ensures _ c.kind_number-in-2.ensures c.in-2.is
 
-pub returns-then-b-lt3 : goal.returns-then-b-lt3
-returns-then-b-lt3 g c = power_low _ _ _ _ c.byte_at-b.ensures c.in-3.is c.if-b-lt3.true
-
-pub returns-else-b-lt3 : goal.returns-else-b-lt3
-returns-else-b-lt3 g c = power_high _ _ _ _ c.byte_at-b.ensures c.in-3.is c.if-b-lt3.false
+pub returns-in-3 : goal.returns-in-3
+returns-in-3 g c = let v : not c.contains.result ≡ (ltb c.byte_at-b.result 3 || ltb 10 c.byte_at-b.result) = grind (arith, tests, nat_tests) in v ∙ power_rule _ _ _ _ c.byte_at-b.ensures c.in-3.is
 
 pub returns-in-4 : goal.returns-in-4
 returns-in-4 g c =

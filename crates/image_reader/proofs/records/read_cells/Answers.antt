@@ -1,4 +1,4 @@
-use Rattle.std.proofs.Common.{◌≡◌, ◌+◌, ◌/◌, ◌<◌, length, drop, set, Some, Err, sym, ap, ◌∙◌, subst, arith}
+use Rattle.std.proofs.Common.{◌≡◌, ◌+◌, ◌/◌, ◌<◌, length, get_or, drop, set, Some, Err, sym, ap, ◌∙◌, subst, arith}
 use Rattle.std.proofs.lemmas.Result.{err_from_is_err_and}
 use Rattle.maps.specs.Maps.{KindsLaws, kinds_of}
 use Rattle.image.specs.Opened.{front_of}
@@ -9,13 +9,11 @@ use Rattle.image_reader.proofs.records.read_cells.Goals as goal
 
 pub loop-c-init : goal.loop-c-init
 loop-c-init g c =
-    begin g.row.F.Denot (kinds_of g.K.Key.kind g.V.Value.kind) c.args.bytes.now c.args.cap (32 + c.args.cap / 8) c.args.cells.now c.requires.inside
+    let cap = length c.args.cells.now in
+    begin g.row.F.Denot (kinds_of g.K.Key.kind g.V.Value.kind) c.args.bytes.now cap (32 + cap / 8) c.args.cells.now c.requires
 
-pub put_cell-requires : goal.put_cell-requires
-put_cell-requires g c = omega (arith, c.loop-c.auto.cells, c.requires.room)
-
-pub put_cell-requires-else-is_marked : goal.put_cell-requires-else-is_marked
-put_cell-requires-else-is_marked g c = omega (arith, c.loop-c.auto.cells, c.requires.room)
+pub record_at-requires : goal.record_at-requires
+record_at-requires g c = c.loop-c.invariant.0
 
 pub overflow_add-at-then-is_marked : goal.overflow_add-at-then-is_marked
 overflow_add-at-then-is_marked g c =
@@ -29,13 +27,13 @@ pub returns-in_err-found : goal.returns-in_err-found
 returns-in_err-found g c =
     let x = kinds_of g.K.Key.kind g.V.Value.kind in
     let bs = c.args.bytes.now in
-    let old = c.args.cells.now in
+    let cap = length c.args.cells.now in
     let p = err_from_is_err_and c.from_residual.result c.from_residual.ensures.1 in
     let n = record_none c.loop-c.at (front_of x (drop c.loop-c.at bs)) c.in_err-found.field-0.0 c.in_err-found.ensures in
-    let e = fault g.row.F.Denot x bs c.args.cap (32 + c.args.cap / 8) old c.loop-c.c c.loop-c.cells c.loop-c.at c.loop-c.invariant c.loop-c-test.true (sym c.if-is_marked.ensures) n.0 in
+    let e = fault g.row.F.Denot x bs cap (32 + cap / 8) c.loop-c.c c.loop-c.cells c.loop-c.at c.loop-c.invariant (omega arith) (sym c.if-is_marked.ensures) n.0 in
     record {
       answer = p.1 ∙ ap Err (p.2 ∙ n.1) ∙ sym (ap place_of e);
-      cells = subst (λ w. Filled x w c.args.cap old c.loop-c.cells) (sym e) tt;
+      cells = subst (λ w. Filled x w (set c.loop-c.cells c.loop-c.c (get_or c.loop-c.cells c.loop-c.c c.index-cells-c.result))) (sym e) tt;
     }
 
 pub loop-c-preserved : goal.loop-c-preserved
@@ -43,32 +41,30 @@ loop-c-preserved g c =
     let x = kinds_of g.K.Key.kind g.V.Value.kind in
     let laws : KindsLaws x = record { key = g.met.K.Key.lawful; value = g.met.V.Value.lawful } in
     let bs = c.args.bytes.now in
-    let old = c.args.cells.now in
-    let cap = c.args.cap in
+    let cap = length c.args.cells.now in
     let at = c.loop-c.at in
     let i = c.loop-c.c in
     let cells = c.loop-c.cells in
-    let lc : i < length cells = omega (arith, c.loop-c.auto.cells, c.requires.room) in
+    let lc : i < length cells = omega arith in
     elim c.if-is_marked.branch [
       | then-is_marked+in_ok-found w ↦
           let r = w.in_ok-found.found in
           let n = w.in_ok-found.n in
           let f = record_some at (front_of x (drop at bs)) (r, n) w.in_ok-found.ensures in
-          turned g.row.F.Denot x bs cap (32 + cap / 8) old (i + 1) (w.cells-is ∙ w.put_cell.ensures ∙ ap (λ y. set cells i (Some y)) w.to_lent.ensures) w.at-is
-          (full g.row.F.Denot x bs cap (32 + cap / 8) old i cells at c.loop-c.invariant r n c.loop-c-test.true lc
+          turned g.row.F.Denot x bs cap (32 + cap / 8) (i + 1) (ap (set cells i) (w.cell-is ∙ ap Some w.to_lent.ensures)) w.at-is
+          (full g.row.F.Denot x bs cap (32 + cap / 8) i cells at c.loop-c.invariant r n (omega arith) lc
           (read_within x laws bs at r n c.loop-c.invariant.0 f) (sym c.is_marked.ensures ∙ w.if-is_marked.true) f)
       | else-is_marked w ↦
-          turned g.row.F.Denot x bs cap (32 + cap / 8) old (i + 1) (w.cells-is ∙ w.put_cell-else-is_marked.ensures) w.at-is
-          (empty g.row.F.Denot x bs cap (32 + cap / 8) old i cells at c.loop-c.invariant c.loop-c-test.true lc (sym c.is_marked.ensures ∙ w.if-is_marked.false))
+          turned g.row.F.Denot x bs cap (32 + cap / 8) (i + 1) (ap (set cells i) w.cell-is) w.at-is
+          (empty g.row.F.Denot x bs cap (32 + cap / 8) i cells at c.loop-c.invariant (omega arith) lc (sym c.is_marked.ensures ∙ w.if-is_marked.false))
     ]
 
 pub returns : goal.returns
 returns g c =
     let x = kinds_of g.K.Key.kind g.V.Value.kind in
-    let old = c.args.cells.now in
-    let s : c.loop-c.c ≡ c.args.cap = omega arith in
-    let d = done g.row.F.Denot x c.args.bytes.now c.args.cap (32 + c.args.cap / 8) old c.loop-c.c c.loop-c.cells c.loop-c.at c.loop-c.invariant s in
+    let cap = length c.args.cells.now in
+    let d = done g.row.F.Denot x c.args.bytes.now cap (32 + cap / 8) c.loop-c.c c.loop-c.cells c.loop-c.at c.loop-c.invariant (omega arith) (omega arith) in
     record {
       answer = sym (ap place_of d.0);
-      cells = subst (λ w. Filled x w c.args.cap old c.loop-c.cells) (sym d.0) d.1;
+      cells = subst (λ w. Filled x w c.loop-c.cells) (sym d.0) d.1;
     }

@@ -1,28 +1,17 @@
-use Rattle.std.proofs.Common.{◌≡◌, ◌+◌, ◌-◌, ◌*◌, is_some, sym, refl, ap, ◌∙◌, ap₂, arith}
-use Rattle.image.specs.Bits.{one}
+use Rattle.std.proofs.Common.{◌≡◌, ◌<◌, is_some, true, false, refl, sym, ap, ◌∙◌, arith}
 use Rattle.image.specs.Image.{held}
-use Rattle.image.proofs.Packs.{one_le}
-use Rattle.image_writer.proofs.Puts.{packed_half, packed_more, read_is}
+use Rattle.image_writer.proofs.Puts.{bit_set, bit_clear, read_is}
+use Rattle.image_writer.proofs.bits.bits_of.Goals.{then-is_some, else-is_some}
 use Rattle.image_writer.proofs.bits.bits_of.Goals as goal
-
-pub overflow_mul-bits : goal.overflow_mul-bits
-overflow_mul-bits g c = omega (arith, packed_half (held c.args.cells.now) (8 * c.args.j) c.loop-k.k c.loop-k-test.true c.loop-k.auto.k, c.loop-k.invariant)
-
-pub overflow_add-bits : goal.overflow_add-bits
-overflow_add-bits g c =
-    omega (
-      arith,
-      packed_half (held c.args.cells.now) (8 * c.args.j) c.loop-k.k c.loop-k-test.true c.loop-k.auto.k,
-      c.loop-k.invariant,
-      c.bit_of.ensures,
-      one_le (is_some c.index-cells-j.result),
-    )
 
 pub loop-k-preserved : goal.loop-k-preserved
 loop-k-preserved g c =
-    let t = held c.args.cells.now in
-    let i = 8 * c.args.j in
+    let t = held c.args.eight.now in
     let k = c.loop-k.k in
-    let o = c.index-cells-j.result in
-    let r : t (i + (k - 1)) ≡ is_some o = ap is_some (read_is c.args.cells.now (i + (k - 1)) o o (omega (arith, c.loop-k.auto.k)) c.index-cells-j.is refl) in
-    ap₂ (λ y z. y + 2 * z) (c.bit_of.ensures ∙ ap one (sym r)) c.loop-k.invariant ∙ packed_more t i k c.loop-k-test.true c.loop-k.auto.k
+    let o = c.index-eight-k.result in
+    let l : k < 8 = omega (arith, c.loop-k-test.true, c.requires) in
+    let r : t k ≡ is_some o = ap is_some (read_is c.args.eight.now k o o c.loop-k-test.true c.index-eight-k.is refl) in
+    elim c.if-is_some.branch [
+      | then-is_some w ↦ let y : t k ≡ true = r ∙ sym c.is_some.ensures ∙ w.if-is_some.true in w.bits-is ∙ bit_set t k c.loop-k.bits l c.loop-k.invariant y
+      | else-is_some w ↦ let y : t k ≡ false = r ∙ sym c.is_some.ensures ∙ w.if-is_some.false in w.bits-is ∙ bit_clear t k c.loop-k.bits l c.loop-k.invariant y
+    ]

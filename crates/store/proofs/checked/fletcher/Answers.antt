@@ -9,7 +9,7 @@ loop-x-preserved c =
     let k = c.loop-x.x-index in
     let lt : k < length bytes = search rules in
     let step = at_drop_more (sums_from c.loop-x.s1 c.loop-x.s2) bytes k 0 lt in
-    (search rules, search rules, ap (λ (r : ℕ × ℕ). sums_from r.0 r.1 (drop (k + 1) bytes)) c.with_byte-t1.ensures ∙ sym step ∙ c.loop-x.invariant.2)
+    (search rules, search rules, ap (λ (r : ℕ × ℕ). sums_from r.0 r.1 (drop (k + 1) bytes)) c.with_byte.ensures ∙ sym step ∙ c.loop-x.invariant.2)
 
 pub returns : goal.returns
 returns c =

@@ -4,8 +4,9 @@ use Rattle.layout.specs.Views.{hash_some}
 use Rattle.layout.specs.Walks.{Carry, steps_left}
 use Rattle.layout.proofs.Carries.{carry_start, carry_on, carry_swap, carry_end}
 use Rattle.maps.specs.Maps.{kinds_of}
-use Rattle.table.specs.Rows.{row_order, row_rule, row_merged}
-use Rattle.table.proofs.Rules.{read_at, told_two, lawful}
+use Rattle.cells.specs.Rows.{row_order, row_rule}
+use Rattle.table.specs.Rows.{row_merged}
+use Rattle.cells.proofs.Rules.{read_at, told_two, lawful}
 use Rattle.table.proofs.walks.insert.Given as given
 use Rattle.table.proofs.walks.insert.Goals.{then-is_before, else-is_before}
 use Rattle.table.proofs.walks.insert.Goals as goal

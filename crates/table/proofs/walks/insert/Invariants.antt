@@ -3,7 +3,7 @@ use Rattle.layout.specs.Capacity.{home_at}
 use Rattle.layout.specs.Views.{hash_some}
 use Rattle.layout.specs.Walks.{Carry, steps_left}
 use Rattle.maps.specs.Maps.{kinds_of}
-use Rattle.table.specs.Rows.{row_rule}
+use Rattle.cells.specs.Rows.{row_rule}
 use Rattle.table.proofs.walks.insert.Given as goal
 
 abbrev pub invariant-carry : goal.invariant-carry

@@ -1,8 +1,8 @@
 use Rattle.std.proofs.Common.{true, false, Some, None, sym, ◌∙◌}
 use Rattle.layout.proofs.Lookups.{look_start, look_on, look_here, look_empty, look_later}
 use Rattle.maps.specs.Maps.{kinds_of}
-use Rattle.table.specs.Rows.{row_order}
-use Rattle.table.proofs.Rules.{read_at, told, lawful}
+use Rattle.cells.specs.Rows.{row_order}
+use Rattle.cells.proofs.Rules.{read_at, told, lawful}
 use Rattle.table.proofs.walks.lookup.Goals as goal
 
 pub probe-init : goal.probe-init

@@ -4,7 +4,7 @@ use Rattle.layout.specs.Places.{Reach}
 use Rattle.layout.specs.Walks.{steps_left}
 use Rattle.maps.specs.Maps.{kinds_of}
 use Rattle.layout.specs.Views.{hash_some}
-use Rattle.table.specs.Rows.{row_rule}
+use Rattle.cells.specs.Rows.{row_rule}
 use Rattle.table.proofs.walks.lookup.Given as goal
 
 abbrev pub invariant-probe : goal.invariant-probe

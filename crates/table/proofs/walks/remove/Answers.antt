@@ -5,8 +5,8 @@ use Rattle.layout.specs.Views.{hash_some}
 use Rattle.layout.specs.Walks.{Shift, steps_left}
 use Rattle.layout.proofs.Shifts.{shift_start, shift_stay, shift_move, shift_end}
 use Rattle.maps.specs.Maps.{kinds_of}
-use Rattle.table.specs.Rows.{row_rule}
-use Rattle.table.proofs.Rules.{read_at, lawful, home_inside}
+use Rattle.cells.specs.Rows.{row_rule}
+use Rattle.cells.proofs.Rules.{read_at, lawful, home_inside}
 use Rattle.table.proofs.walks.remove.Given as given
 use Rattle.table.proofs.walks.remove.Goals.{then-distance, else-distance}
 use Rattle.table.proofs.walks.remove.Goals as goal

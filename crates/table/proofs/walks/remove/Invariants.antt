@@ -1,7 +1,7 @@
 use Rattle.std.proofs.Common.{◌≡◌, ◌<◌, length}
 use Rattle.layout.specs.Walks.{Shift, steps_left}
 use Rattle.maps.specs.Maps.{kinds_of}
-use Rattle.table.specs.Rows.{row_rule}
+use Rattle.cells.specs.Rows.{row_rule}
 use Rattle.table.proofs.walks.remove.Given as goal
 
 abbrev pub invariant-shift : goal.invariant-shift

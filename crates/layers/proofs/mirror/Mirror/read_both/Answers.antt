@@ -11,6 +11,6 @@ returns g c =
     let in_left : i < l.count s.left = search rules in
     let in_right : i < r.count s.right = search rules in
     mirror_read _ _ i (l.shown s.left) (r.shown s.right) c.requires _ _ _
-    (place_read _ _ c.read.result _ (l.shown s.left) i in_left c.read.ensures)
-    (place_read _ _ c.read-2.result _ (r.shown s.right) i in_right c.read-2.ensures)
+    (place_read _ c.read.result _ (l.shown s.left) i in_left c.read.ensures)
+    (place_read _ c.read-2.result _ (r.shown s.right) i in_right c.read-2.ensures)
     c.agree.ensures

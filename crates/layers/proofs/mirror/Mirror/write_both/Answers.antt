@@ -15,12 +15,11 @@ returns g c =
     let in_left : i < l.count s.left = search rules in
     let in_right : i < r.count s.right = search rules in
     let free = or_parts (l.protected s.left) (r.protected s.right) c.requires.1 in
-    let to-left = w.left ∙ taken _ _ i in_left (l.shown s.left) (set (l.shown s.left) i (Some b)) free.0 in
-    let to-right = w.right ∙ taken _ _ i in_right (r.shown s.right) (set (r.shown s.right) i (Some b)) free.1 in
+    let to-left = w.left.1 ∙ taken _ _ i in_left (l.shown s.left) (set (l.shown s.left) i (Some b)) free.0 in
+    let to-right = w.right.1 ∙ taken _ _ i in_right (r.shown s.right) (set (r.shown s.right) i (Some b)) free.1 in
     record {
-      count = search rules;
-      protect = search rules;
-      shows = mirror_after _ _ i (l.shown s.left) (r.shown s.right) b c.requires.0 (l.lengths s.left).of_shown (r.lengths s.right).of_shown _ _ _ _ w.left_same.0 w.right_same.0 to-left to-right;
+      fixed = (search rules, search rules);
+      shows = mirror_after _ _ i (l.shown s.left) (r.shown s.right) b c.requires.0 (l.lengths s.left).of_shown (r.lengths s.right).of_shown _ _ _ _ w.left.0.0 w.right.0.0 to-left to-right;
       left = to-left;
       right = to-right;
     }

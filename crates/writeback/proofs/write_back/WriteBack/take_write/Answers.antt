@@ -17,9 +17,8 @@ returns g c =
     let new : Slot = record { at = i; block = c.args.block.now } in
     let w = c.make_way.ensures in
     record {
-      count = w.count;
-      protect = w.protect;
-      shows = write_shows n _ p _ xs _ hs _ new c.requires.0 c.requires.1 w.count w.protect w.below w.held ∙ taken n p i c.requires.0 (overlay n p xs hs) (set (overlay n p xs hs) i (Some c.args.block.now)) c.requires.1;
+      fixed = w.fixed;
+      shows = write_shows n _ p _ xs _ hs _ new c.requires.0 c.requires.1 w.fixed.0 w.fixed.1 w.below w.held ∙ taken n p i c.requires.0 (overlay n p xs hs) (set (overlay n p xs hs) i (Some c.args.block.now)) c.requires.1;
       held = w.held;
       below = w.below;
     }

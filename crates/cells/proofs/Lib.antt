@@ -1,0 +1,4 @@
+pub mod Finding
+pub mod Lent
+pub mod Powers
+pub mod Rules
