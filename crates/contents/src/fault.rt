@@ -9,7 +9,7 @@ use sheets::sheet::SheetFault;
 use store::fault::BlockFault;
 
 // `F` is the store's own fault, which is carried whole inside the image's.
-#[derive(Clone, Copy)]
+#[derive(Clone, Copy, Debug, PartialEq, Eq)]
 pub enum RegisterFault<F> {
     // The store has no block, or more than 2048.
     Size,
