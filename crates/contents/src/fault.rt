@@ -46,6 +46,7 @@ impl<F: BlockFault> From<SheetFault> for RegisterFault<F> {
     }
 }
 
+// The numbers and places of refusals are a rule of the project.
 impl<F: BlockFault> RegisterFault<F> {
     pub fn number(&self) -> u8
         ensures { result ≡ (told F.BlockFault self.now).number }

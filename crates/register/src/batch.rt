@@ -36,7 +36,7 @@ pub struct Open<S> {
     shape: Shape,
 }
 
-// Stands beside an open batch. Only seal and abandon spend it, and only a spent one may be let go.
+// Stands beside an open batch. Only seal and abandon spend it, and only a spent one may be let go: a rule of the project.
 pub struct Token {
     spent: bool,
 }

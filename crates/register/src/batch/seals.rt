@@ -20,7 +20,7 @@ use store::store::Store;
 fn more(bytes: usize, blocks: usize) -> bool
     ensures { result ≡ nat_lt (32 * blocks) bytes }
 {
-    bytes > 0 && (bytes - 1) / 32 >= blocks
+    bytes.div_ceil(32) > blocks
 }
 
 // Why seal is refused, if it is: all that it looks at before it writes, in the order of the refusals.
@@ -44,6 +44,7 @@ fn check_seal<S: Store, K: Key, V: Value>(
     Ok(())
 }
 
+// The step of seal.
 fn seal_batch<S: Store, K: Key, V: Value>(
     mut batch: Open<S>,
     token: Token,
