@@ -30,13 +30,7 @@ pub fn audit_two<S: Store, T: Store, K: Key, V: Value>(
     };
     match examine::<T, K, V>(second, second_cells, work) {
         Ok((other_count, other_seed)) => {
-            let same = same_map::<K, V>(
-                first_cells,
-                count,
-                second_cells,
-                other_seed,
-                other_count,
-            );
+            let same = same_map::<K, V>(first_cells, count, second_cells, other_seed, other_count);
             first_cells.fill(None);
             second_cells.fill(None);
             Ok(same)

@@ -9,7 +9,7 @@ use sheets::sheet::SheetFault;
 use store::fault::BlockFault;
 
 // `F` is the store's own fault, which is carried whole inside the image's.
-#[derive(Clone, Copy)]
+#[derive(Clone, Copy, Debug, PartialEq, Eq)]
 pub enum RegisterFault<F> {
     // The store has no block, or more than 2048.
     Size,
@@ -46,6 +46,7 @@ impl<F: BlockFault> From<SheetFault> for RegisterFault<F> {
     }
 }
 
+// The numbers and places of refusals are a rule of the project.
 impl<F: BlockFault> RegisterFault<F> {
     pub fn number(&self) -> u8
         ensures { result ≡ (told F.BlockFault self.now).number }

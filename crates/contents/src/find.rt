@@ -38,6 +38,5 @@ pub fn find_contents<S: Store, K: Key, V: Value>(
     ensures { Finds (setup K.Key.kind V.Value.kind) (meaning S.Store store.now) cells.old work.old (reading S.Fault.BlockFault result cells.new work.new) }
 {
     check_lengths(store.count(), cells.len(), work.len())?;
-    let found = read_store::<S, K, V>(store, work, cells)?;
-    Ok(found)
+    Ok(read_store::<S, K, V>(store, work, cells)?)
 }

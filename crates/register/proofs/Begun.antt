@@ -6,7 +6,7 @@ use Rattle.maps.specs.Maps.{kinds_of}
 use Rattle.model.specs.Faults.{Fault}
 use Rattle.model.specs.Refusals.{begin_refusal}
 use Rattle.model.specs.Steps.{Step, Refuses, Reads}
-use Rattle.model.specs.Worlds.{Store, Phase, Call, Outcome, Event, work_piece}
+use Rattle.model.specs.Worlds.{Phase, Call, Outcome, Event, work_piece}
 use Rattle.model.proofs.Refusals.{unless_as}
 use Rattle.contents.specs.Faults.{told}
 use Rattle.contents.specs.Finds.{Finds, Tried, Reading, reading, not_tried, laid_out}

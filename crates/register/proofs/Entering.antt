@@ -13,7 +13,7 @@ use Rattle.maps.specs.declared.Command.{Command}
 use Rattle.model.specs.Faults.{Fault, kind_fault, lent_fault}
 use Rattle.model.specs.Refusals.{first, other_kinds, all_keys, wrong_lengths, enter_refusal}
 use Rattle.model.specs.Steps.{Step}
-use Rattle.model.specs.Worlds.{Store, Phase, Outcome, sheet_pieces}
+use Rattle.model.specs.Worlds.{Phase, Outcome, sheet_pieces}
 use Rattle.model.proofs.Refusals.{refused_with, not_refused, same_numbers}
 use Rattle.model.proofs.Sheets.{answers_length}
 use Rattle.sheets.specs.Checks.{IsTable}
@@ -24,7 +24,7 @@ use Rattle.contents.specs.Faults.{of_sheet}
 use Rattle.register.specs.Sheets.{enter_event}
 use Rattle.store.specs.declared.fault.BlockFault.{Ghosts as FaultWords}
 use Rattle.store.specs.declared.store.Store.{Ghosts as StoreWords}
-use Rattle.contents.specs.Setups.{setup, meaning}
+use Rattle.contents.specs.Setups.{setup}
 use Rattle.register.specs.Worlds.{batch_in, open_world}
 use Rattle.register.specs.declared.batch.Open.{Open}
 use Rattle.contents.specs.declared.fault.RegisterFault.{RegisterFault}

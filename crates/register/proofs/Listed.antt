@@ -1,12 +1,12 @@
 -- What a list rests on, over plain values.
-use Rattle.std.proofs.Common.{◌≡◌, ℕ, ◌≤◌, List, [], map, length, take, Some, None, Ok, Err, Option, sym, refl, ap, ◌∙◌, inl, inr, arith}
+use Rattle.std.proofs.Common.{◌≡◌, ◌≤◌, List, [], map, length, take, Some, None, Ok, Err, Option, sym, refl, ap, ◌∙◌, inl, inr, arith}
 use Rattle.kinds.specs.Kinds.{KeyKind, ValueKind, KeyLaws}
 use Rattle.kinds.specs.declared.record.Record.{Record}
 use Rattle.layout.specs.Capacity.{capacity}
 use Rattle.maps.specs.Maps.{kinds_of, contents}
 use Rattle.model.specs.Refusals.{other_kinds, list_refusal}
 use Rattle.model.specs.Steps.{Step, LaidFor, in_cells, listing, over_first}
-use Rattle.model.specs.Worlds.{Store, Outcome}
+use Rattle.model.specs.Worlds.{Outcome}
 use Rattle.model.proofs.Layouts.{listing_laws}
 use Rattle.model.proofs.Pieces.{listed_front}
 use Rattle.model.proofs.Refusals.{not_refused, list_taken}
@@ -14,7 +14,7 @@ use Rattle.sheets.specs.Checks.{IsTable}
 use Rattle.register.specs.Sheets.{list_event}
 use Rattle.store.specs.declared.fault.BlockFault.{Ghosts as FaultWords}
 use Rattle.store.specs.declared.store.Store.{Ghosts as StoreWords}
-use Rattle.contents.specs.Setups.{setup, meaning}
+use Rattle.contents.specs.Setups.{setup}
 use Rattle.register.specs.Worlds.{batch_in, open_world}
 use Rattle.register.specs.declared.batch.Open.{Open}
 use Rattle.contents.specs.declared.fault.RegisterFault.TheVariants.{Cells}

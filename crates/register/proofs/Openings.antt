@@ -5,11 +5,11 @@ use Rattle.kinds.specs.declared.record.Record.{Record}
 use Rattle.maps.specs.Maps.{kinds_of}
 use Rattle.model.specs.Refusals.{start_refusal}
 use Rattle.model.specs.Steps.{Step}
-use Rattle.model.specs.Worlds.{Store, Phase, Call, no_piece}
+use Rattle.model.specs.Worlds.{Phase, Call, no_piece}
 use Rattle.model.proofs.Refusals.{not_refused}
 use Rattle.store.specs.declared.fault.BlockFault.{Ghosts as FaultWords}
 use Rattle.store.specs.declared.store.Store.{Ghosts as StoreWords}
-use Rattle.contents.specs.Setups.{setup, meaning}
+use Rattle.contents.specs.Setups.{setup}
 use Rattle.register.specs.Worlds.{batch_in, batch_under, closed_world, opening_event}
 use Rattle.register.specs.declared.batch.Closed.{Closed}
 use Rattle.register.specs.declared.batch.Open.{Open}

@@ -8,7 +8,7 @@ use Rattle.kinds.specs.Kinds.{KeyKind, ValueKind}
 use Rattle.kinds.specs.declared.record.Record.{Record}
 use Rattle.maps.specs.Maps.{Kinds, kinds_of, contents}
 use Rattle.model.specs.Faults.{kind_fault, lent_fault, short_fault, protected_fault}
-use Rattle.model.specs.Refusals.{first, not_1024, other_kinds, list_refusal, seal_refusal, write_refusal}
+use Rattle.model.specs.Refusals.{first, not_1024, other_kinds, list_refusal, seal_refusal}
 use Rattle.model.specs.Steps.{Step}
 use Rattle.model.specs.Worlds.{Store}
 use Rattle.model.proofs.Refusals.{not_refused, seal_taken, write_taken}

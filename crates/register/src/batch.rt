@@ -35,7 +35,7 @@ pub struct Open<S> {
     shape: Shape,
 }
 
-// Stands beside an open batch. Only seal and abandon spend it, and only a spent one may be let go.
+// Stands beside an open batch. Only seal and abandon spend it, and only a spent one may be let go: a rule of the project.
 pub struct Token {
     spent: bool,
 }
@@ -126,7 +126,7 @@ impl<S: Store> Open<S> {
         Ok(())
     }
 
-    // Sees to the cells, which are to be a layout of the batch's count, capacity and seed.
+    // Sees to the cells, which are to be a layout of the batch's shape.
     fn check_cells<K: Key, V: Value>(
         &self,
         cells: &[Option<Record<K::Row, V>>],

@@ -2,6 +2,7 @@
 #![tactic(auto)]
 
 pub mod batch;
+
 pub use contents::fault;
 
 mod listing;

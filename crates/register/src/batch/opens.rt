@@ -16,7 +16,7 @@ use kinds::value::Value;
 use store::fault::BlockFault;
 use store::store::Store;
 
-// Sees to the size of the store, then to the number of cells.
+// Sees to the size of the store, then to the number of cells. Begin looks at other lengths, in `check_lengths` of contents.
 fn check_start<F: BlockFault>(blocks: usize, room: usize) -> Result<(), RegisterFault<F>>
     ensures { told_if F.BlockFault result ≡ start_refusal blocks room }
 {

@@ -4,11 +4,11 @@ ghost use Rattle.contents.specs.Setups.{setup};
 ghost use Rattle.model.specs.Runs.{Ran};
 ghost use Rattle.register.specs.Worlds.{closed_world};
 
+use super::Closed;
 use super::ends::abandon;
 use super::enters::enter;
 use super::opens::start;
 use super::seals::seal;
-use super::Closed;
 use kinds::key::Key;
 use kinds::record::Record;
 use kinds::value::Value;

@@ -7,6 +7,7 @@ ghost use Rattle.register.specs.Seals.{SealSeen, seal_event};
 ghost use Rattle.register.specs.Worlds.{open_world};
 
 use super::{Open, Sealing, Token};
+use cells::shape::Shape;
 use contents::fault::RegisterFault;
 use image_save::save::save_image;
 use image_writer::writer::image_len;
@@ -19,7 +20,7 @@ use store::store::Store;
 fn more(bytes: usize, blocks: usize) -> bool
     ensures { result ≡ nat_lt (32 * blocks) bytes }
 {
-    bytes > 0 && (bytes - 1) / 32 >= blocks
+    bytes.div_ceil(32) > blocks
 }
 
 // Why seal is refused, if it is: all that it looks at before it writes, in the order of the refusals.
@@ -43,6 +44,7 @@ fn check_seal<S: Store, K: Key, V: Value>(
     Ok(())
 }
 
+// The step of seal.
 fn seal_batch<S: Store, K: Key, V: Value>(
     mut batch: Open<S>,
     token: Token,
@@ -54,7 +56,8 @@ fn seal_batch<S: Store, K: Key, V: Value>(
     if let Err(fault) = check_seal::<S, K, V>(&batch, cells, work) {
         return Err((batch, token, fault));
     }
-    save_image::<S, K, V>(&mut batch.store, cells, batch.shape.count, batch.shape.seed, work);
+    let Shape { seed, count, .. } = batch.shape;
+    save_image::<S, K, V>(&mut batch.store, cells, count, seed, work);
     cells.fill(None);
     Ok(batch.close(token))
 }

@@ -1,6 +1,5 @@
 use Rattle.std.proofs.Common.{Err, ap, ◌∙◌}
 use Rattle.std.proofs.lemmas.Result.{err_from_is_err_and}
-use Rattle.contents.specs.Setups.{meaning}
 use Rattle.register.proofs.Entering.{own, refused_step, entered_step}
 use Rattle.register.proofs.batch.enters.enter.Goals as goal
 

@@ -1,4 +1,3 @@
-use Rattle.contents.specs.Setups.{meaning}
 use Rattle.register.proofs.Listed.{listing_fits, listed_step}
 use Rattle.register.proofs.batch.enters.list.Goals as goal
 

@@ -1,4 +1,3 @@
-use Rattle.contents.specs.Setups.{meaning}
 use Rattle.register.proofs.Begun.{begun_step, not_begun_step}
 use Rattle.register.proofs.batch.opens.begin.Goals as goal
 

@@ -1,7 +1,6 @@
 use Rattle.std.proofs.Common.{length, ap, ◌∙◌, arith}
 use Rattle.model.specs.Refusals.{start_refusal}
 use Rattle.contents.proofs.Found.{none_cloned}
-use Rattle.contents.specs.Setups.{meaning}
 use Rattle.register.proofs.Openings.{started_step}
 use Rattle.register.proofs.batch.opens.start.Goals as goal
 
