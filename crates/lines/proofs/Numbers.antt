@@ -1,10 +1,11 @@
 -- The number that digits write.
-use Rattle.std.proofs.Common.{◌≡◌, ℕ, zero, suc, ◌^◌, ◌<◌, ◌≤◌, true, false, ◌&&◌, ltb, leb, List, [], ◌∷◌, length, get_or, Some, None, decimal, sym, ap, ◌∙◌, inl, inr, arith, rules}
+use Rattle.std.proofs.Common.{◌≡◌, ℕ, zero, suc, ◌^◌, ◌<◌, ◌≤◌, true, leb, List, [], ◌∷◌, length, get_or, Some, decimal, arith, rules}
 use Rattle.std.proofs.lemmas.Fmt.{decimal_nonempty, length-decimal-le, digits_decimal, digits_value-decimal}
 use Rattle.std.proofs.lemmas.Str.Parse.{IsNumeralModel, numerals_by_fold}
-use Rattle.std.proofs.lemmas.Bool.{le-leb, lt-ltb, leb-true, ltb-true, and_from, and_parts, cond-true, cond-false, cases_Bool}
+use Rattle.std.proofs.lemmas.Grind.{common_steps}
+use Rattle.std.proofs.lemmas.Bool.{leb-true, and_parts}
 use Rattle.std.specs.List.{list_all}
-use Rattle.lines.specs.Input.{is_digit, value_from, is_number, number_in}
+use Rattle.lines.specs.Input.{is_digit, value_from, number_in}
 use Rattle.lines.specs.Laws.{Writes}
 
 digit_least : (b : ℕ) → is_digit b ≡ true → (48 ≤ b) × (b ≤ 57)
@@ -12,35 +13,16 @@ digit_least b e = let p = and_parts (leb 48 b) (leb b 57) e in (leb-true 48 b p.
 
 -- a number that is read is one that the digits write, and each such is read
 pub number_writes : (limit n : ℕ) (ds : List ℕ) → number_in limit ds ≡ Some n → Writes limit n ds
-number_writes limit n ds e = elim (cases_Bool (is_number limit ds)) [ inl t ↦ yes_number t | inr f ↦ absurd (none f) ]
-  where
-    yes_number : is_number limit ds ≡ true → Writes limit n ds
-    yes_number t =
-        let v : Some (value_from 0 ds) ≡ Some n = sym (cond-true (is_number limit ds) (Some (value_from 0 ds)) None t) ∙ e in
-        let w : value_from 0 ds ≡ n = cc in
-        let p = and_parts (leb 1 (length ds)) (leb (length ds) 10 && (list_all is_digit ds && ltb (value_from 0 ds) limit)) t in
-        let q = and_parts (leb (length ds) 10) (list_all is_digit ds && ltb (value_from 0 ds) limit) p.1 in
-        let r = and_parts (list_all is_digit ds) (ltb (value_from 0 ds) limit) q.1 in
-        record {
-          some = leb-true 1 (length ds) p.0;
-          few = leb-true (length ds) 10 q.0;
-          digits = r.0;
-          value = w;
-          below = omega (arith, ltb-true (value_from 0 ds) limit r.1);
-        }
-
-    none : is_number limit ds ≡ false → ⊥
-    none f =
-        let v : None ≡ Some n = sym (cond-false (is_number limit ds) (Some (value_from 0 ds)) None f) ∙ e in
-        let z : ◌≡◌ {A = ℕ} 0 1 = cc in
-        omega arith
+number_writes limit n ds e = record {
+  some = grind (arith, common_steps);
+  few = grind (arith, common_steps);
+  digits = grind (arith, common_steps);
+  value = grind (arith, common_steps);
+  below = grind (arith, common_steps);
+}
 
 pub writes_number : (limit n : ℕ) (ds : List ℕ) → Writes limit n ds → number_in limit ds ≡ Some n
-writes_number limit n ds w =
-    let b : value_from 0 ds < limit = omega (arith, w.value, w.below) in
-    let t : is_number limit ds ≡ true =
-    and_from _ _ (le-leb 1 (length ds) w.some) (and_from _ _ (le-leb (length ds) 10 w.few) (and_from _ _ w.digits (lt-ltb (value_from 0 ds) limit b))) in
-    cond-true (is_number limit ds) _ _ t ∙ ap Some w.value
+writes_number limit n ds w = grind (arith, common_steps, w.some, w.few, w.digits, w.value, w.below)
 
 own : IsNumeralModel (λ ds. list_all is_digit ds ≡ true) (value_from 0)
 own = numerals_by_fold _ (search rules) value_from (search rules)

@@ -1,7 +1,8 @@
 -- A line is read as what it is.
 use Rattle.std.proofs.Common.{◌≡◌, ℕ, suc, ◌+◌, ◌-◌, ◌^◌, ◌≤◌, false, eqb, List, [], ◌∷◌, ◌++◌, length, get_or, take, drop, Some, None, decimal, Option, Result, sym, refl, ap, ◌∙◌, subst, ap₂, inl, inr, arith}
 use Rattle.std.proofs.lemmas.List.{take_at, take_rest}
-use Rattle.std.proofs.lemmas.Bool.{cases_Bool, cond-true, cond-false, eqb-true, eq-eqb, ne_eqb}
+use Rattle.std.proofs.lemmas.Grind.{common_steps}
+use Rattle.std.proofs.lemmas.Bool.{cases_Bool, cond-false, eqb-true}
 use Rattle.lines.specs.Input.{first_place, key_in, value_in, with_key, with_both, put_at, put_in, seal_in, line_in, or_bad}
 use Rattle.lines.specs.Laws.{Spells, Tells, ReadsBack}
 use Rattle.lines.specs.declared.input.BadLine.{BadLine}
@@ -13,19 +14,16 @@ use Rattle.lines.proofs.Places.{split_at, place_behind}
 -- the command character says how the rest is read
 module _ (c : ℕ) (bs : List ℕ) where
   plus_line : c ≡ 43 → line_in (c ∷ bs) ≡ put_in bs
-  plus_line e = cond-true (eqb c 43) _ _ (eq-eqb c 43 e)
+  plus_line e = grind (arith, common_steps)
 
   minus_line : c ≡ 45 → line_in (c ∷ bs) ≡ with_key Drop (key_in bs)
-  minus_line e = cond-false (eqb c 43) _ _ (ne_eqb c 43 (λ f. omega arith)) ∙ cond-true (eqb c 45) _ _ (eq-eqb c 45 e)
+  minus_line e = grind (arith, common_steps)
 
   ask_line : c ≡ 63 → line_in (c ∷ bs) ≡ with_key Get (key_in bs)
-  ask_line e =
-      cond-false (eqb c 43) _ _ (ne_eqb c 43 (λ f. omega arith)) ∙ cond-false (eqb c 45) _ _ (ne_eqb c 45 (λ f. omega arith)) ∙ cond-true (eqb c 63) _ _ (eq-eqb c 63 e)
+  ask_line e = grind (arith, common_steps)
 
   seal_line : c ≡ 61 → line_in (c ∷ bs) ≡ seal_in bs
-  seal_line e =
-      cond-false (eqb c 43) _ _ (ne_eqb c 43 (λ f. omega arith)) ∙ cond-false (eqb c 45) _ _ (ne_eqb c 45 (λ f. omega arith)) ∙ cond-false (eqb c 63) _ _ (ne_eqb c 63 (λ f. omega arith))
-      ∙ cond-true (eqb c 61) _ _ (eq-eqb c 61 e)
+  seal_line e = grind (arith, common_steps)
 
 -- with the rest of the bytes as the program's match gives it
 pub plus_rest : (bs : List ℕ) → 1 ≤ length bs → get_or bs 0 0 ≡ 43 → line_in bs ≡ put_in (take (length bs - 1) (drop 1 bs))
