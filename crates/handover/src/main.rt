@@ -58,11 +58,11 @@ fn answer_sheet<S: Store>(
 }
 
 // Answers all lines before the next seal, and tells whether one came.
-fn answer_batch<'a, S: Store>(
+fn answer_batch<S: Store>(
     rt: &HostRuntime,
     desk: &mut Desk,
     batch: &mut Batch<S>,
-    lines: &mut Lines<'a>,
+    lines: &mut Lines<'_>,
 ) -> anyhow::Result<bool>
     ensures { IfOk result (λ sealed. IsTrue sealed → length (unread lines.new) < length (unread lines.old)) }
 {
@@ -90,10 +90,9 @@ fn answer_batch<'a, S: Store>(
 fn answer_all<S: Store + Drop>(
     rt: &HostRuntime,
     desk: &mut Desk,
-    first: Batch<S>,
+    mut batch: Batch<S>,
     input: &[u8],
 ) -> (Closed<S>, anyhow::Result<()>) {
-    let mut batch = first;
     let mut lines = Lines::new(input);
     loop {
         match answer_batch(rt, desk, &mut batch, &mut lines) {

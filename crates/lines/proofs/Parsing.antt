@@ -1,7 +1,8 @@
 -- A line is read as what it is.
-use Rattle.std.proofs.Common.{◌≡◌, ℕ, suc, ◌+◌, ◌-◌, ◌^◌, ◌≤◌, false, eqb, List, [], ◌∷◌, ◌++◌, length, get_or, take, drop, Some, None, decimal, Option, Result, sym, refl, ap, ◌∙◌, subst, ap₂, inl, inr, arith}
+use Rattle.std.proofs.Common.{◌≡◌, ℕ, ◌+◌, ◌-◌, ◌^◌, ◌≤◌, false, eqb, List, [], ◌∷◌, ◌++◌, length, get_or, take, drop, Some, None, decimal, Option, Result, sym, refl, ap, ◌∙◌, subst, ap₂, inl, inr, arith}
 use Rattle.std.proofs.lemmas.List.{take_at, take_rest}
-use Rattle.std.proofs.lemmas.Bool.{cases_Bool, cond-true, cond-false, eqb-true, eq-eqb, ne_eqb}
+use Rattle.std.proofs.lemmas.Grind.{common_steps}
+use Rattle.std.proofs.lemmas.Bool.{cases_Bool, eqb-true}
 use Rattle.lines.specs.Input.{first_place, key_in, value_in, with_key, with_both, put_at, put_in, seal_in, line_in, or_bad}
 use Rattle.lines.specs.Laws.{Spells, Tells, ReadsBack}
 use Rattle.lines.specs.declared.input.BadLine.{BadLine}
@@ -13,19 +14,16 @@ use Rattle.lines.proofs.Places.{split_at, place_behind}
 -- the command character says how the rest is read
 module _ (c : ℕ) (bs : List ℕ) where
   plus_line : c ≡ 43 → line_in (c ∷ bs) ≡ put_in bs
-  plus_line e = cond-true (eqb c 43) _ _ (eq-eqb c 43 e)
+  plus_line e = grind (arith, common_steps)
 
   minus_line : c ≡ 45 → line_in (c ∷ bs) ≡ with_key Drop (key_in bs)
-  minus_line e = cond-false (eqb c 43) _ _ (ne_eqb c 43 (λ f. omega arith)) ∙ cond-true (eqb c 45) _ _ (eq-eqb c 45 e)
+  minus_line e = grind (arith, common_steps)
 
   ask_line : c ≡ 63 → line_in (c ∷ bs) ≡ with_key Get (key_in bs)
-  ask_line e =
-      cond-false (eqb c 43) _ _ (ne_eqb c 43 (λ f. omega arith)) ∙ cond-false (eqb c 45) _ _ (ne_eqb c 45 (λ f. omega arith)) ∙ cond-true (eqb c 63) _ _ (eq-eqb c 63 e)
+  ask_line e = grind (arith, common_steps)
 
   seal_line : c ≡ 61 → line_in (c ∷ bs) ≡ seal_in bs
-  seal_line e =
-      cond-false (eqb c 43) _ _ (ne_eqb c 43 (λ f. omega arith)) ∙ cond-false (eqb c 45) _ _ (ne_eqb c 45 (λ f. omega arith)) ∙ cond-false (eqb c 63) _ _ (ne_eqb c 63 (λ f. omega arith))
-      ∙ cond-true (eqb c 61) _ _ (eq-eqb c 61 e)
+  seal_line e = grind (arith, common_steps)
 
 -- with the rest of the bytes as the program's match gives it
 pub plus_rest : (bs : List ℕ) → 1 ≤ length bs → get_or bs 0 0 ≡ 43 → line_in bs ≡ put_in (take (length bs - 1) (drop 1 bs))
@@ -34,11 +32,11 @@ plus_rest (c ∷ bs) l e = plus_line c bs e ∙ ap put_in (sym (take_rest (c ∷
 
 with_key_from : (make : ℕ → Line) (o : Option ℕ) (l : Line) → with_key make o ≡ Some l → (k : ℕ) × (o ≡ Some k) × (make k ≡ l)
 with_key_from make (Some k) l e = (k, refl, cc)
-with_key_from make None l e = absurd (let z : ◌≡◌ {A = ℕ} 0 1 = cc in omega arith)
+with_key_from make None l e = grind (arith, common_steps)
 
 with_both_from : (o p : Option ℕ) (l : Line) → with_both o p ≡ Some l → (k : ℕ) × (v : ℕ) × (o ≡ Some k) × (p ≡ Some v) × (Put k v ≡ l)
 with_both_from (Some k) p l e = let f = with_key_from (Put k) p l e in (k, f.0, refl, f.1, f.2)
-with_both_from None p l e = absurd (let z : ◌≡◌ {A = ℕ} 0 1 = cc in omega arith)
+with_both_from None p l e = grind (arith, common_steps)
 
 put_spells : (bs : List ℕ) (o : Option ℕ) (l : Line) → first_place 32 bs ≡ o → put_at bs o ≡ Some l → Spells l (43 ∷ bs)
 put_spells bs (Some i) l f e =
@@ -46,18 +44,15 @@ put_spells bs (Some i) l f e =
     let s = split_at 32 bs i f in
     subst (λ (x : Line). Spells x (43 ∷ bs)) b.4
     (take i bs, drop (i + 1) bs, number_writes (2 ^ 32) b.0 (take i bs) b.2, number_writes (2 ^ 16) b.1 (drop (i + 1) bs) b.3, ap (λ x. 43 ∷ x) s.parts)
-put_spells bs None l f e = absurd (let z : ◌≡◌ {A = ℕ} 0 1 = cc in omega arith)
+put_spells bs None l f e = grind (arith, common_steps)
 
 seal_spells : (bs : List ℕ) (l : Line) → seal_in bs ≡ Some l → Spells l (61 ∷ bs)
-seal_spells [] l e = subst (λ (x : Line). Spells x (61 ∷ [])) seal_is refl
-  where
-    seal_is : Seal ≡ l
-    seal_is = cc
-seal_spells (b ∷ bs) l e = absurd (let z : ◌≡◌ {A = ℕ} 0 1 = cc in omega arith)
+seal_spells [] l e = let seal_is : Seal ≡ l = cc in subst (λ (x : Line). Spells x (61 ∷ [])) seal_is refl
+seal_spells (b ∷ bs) l e = grind (arith, common_steps)
 
 -- what is read is what the bytes spell
 line_spells : (bs : List ℕ) (l : Line) → line_in bs ≡ Some l → Spells l bs
-line_spells [] l e = absurd (let z : ◌≡◌ {A = ℕ} 0 1 = cc in omega arith)
+line_spells [] l e = grind (arith, common_steps)
 line_spells (c ∷ bs) l e = elim (cases_Bool (eqb c 43)) [
   | inl t ↦ plus (eqb-true c 43 t)
   | inr f ↦ elim (cases_Bool (eqb c 45)) [
@@ -86,11 +81,7 @@ line_spells (c ∷ bs) l e = elim (cases_Bool (eqb c 43)) [
     seal t = subst (λ x. Spells l (x ∷ bs)) (sym t) (seal_spells bs l (sym (seal_line c bs t) ∙ e))
 
     other : eqb c 43 ≡ false → eqb c 45 ≡ false → eqb c 63 ≡ false → eqb c 61 ≡ false → ⊥
-    other f g h i =
-        let n : line_in (c ∷ bs) ≡ None = cond-false (eqb c 43) _ _ f ∙ cond-false (eqb c 45) _ _ g ∙ cond-false (eqb c 63) _ _ h ∙ cond-false (eqb c 61) _ _ i in
-        let m : Some l ≡ None = sym e ∙ n in
-        let z : ◌≡◌ {A = ℕ} 0 1 = cc in
-        omega arith
+    other f g h i = grind (arith, common_steps)
 
 -- and what they spell is read
 spells_line : (l : Line) (bs : List ℕ) → Spells l bs → line_in bs ≡ Some l
@@ -106,18 +97,14 @@ spells_line (Put k v) bs s =
   where
     drop_behind : (xs : List ℕ) (y : ℕ) (ys : List ℕ) → drop (length xs + 1) (xs ++ y ∷ ys) ≡ ys
     drop_behind [] y ys = refl
-    drop_behind (x ∷ xs) y ys = let n : suc (length xs) + 1 ≡ suc (length xs + 1) = omega arith in ap (λ k. drop k (x ∷ (xs ++ y ∷ ys))) n ∙ drop_behind xs y ys
+    drop_behind (x ∷ xs) y ys = grind (arith, common_steps, drop_behind xs y ys)
 spells_line (Drop k) bs s = ap line_in s.2 ∙ ap (with_key Drop) (writes_number (2 ^ 32) k s.0 s.1)
 spells_line (Get k) bs s = ap line_in s.2 ∙ ap (with_key Get) (writes_number (2 ^ 32) k s.0 s.1)
 spells_line Seal bs s = ap line_in s
 
 tells_by : (bs : List ℕ) (o : Option Line) → line_in bs ≡ o → Tells bs (or_bad o)
 tells_by bs (Some l) e = line_spells bs l e
-tells_by bs None e =
-    λ l s.
-    let m : Some l ≡ None = sym (spells_line l bs s) ∙ e in
-    let z : ◌≡◌ {A = ℕ} 0 1 = cc in
-    omega arith
+tells_by bs None e = λ l s. let m : Some l ≡ None = sym (spells_line l bs s) ∙ e in grind (arith, common_steps)
 
 pub tells : (bs : List ℕ) (r : Result Line BadLine) → r ≡ or_bad (line_in bs) → Tells bs r
 tells bs r e = subst (λ (x : Result Line BadLine). Tells bs x) (sym e) (tells_by bs (line_in bs) refl)

@@ -67,7 +67,8 @@ impl<'a> Iterator for Lines<'a> {
     }
 }
 
-// The number that 1 to 10 digits write, below a limit of at most 2^32.
+// The number that 1 to 10 digits write, below a limit. Where the limit is that of a type, the cast to it loses nothing, and
+// `try_from` would only name a second error that never comes.
 fn read_number(digits: &[u8], limit: u64) -> Result<u64, BadLine>
     ensures { result ≡ or_bad (number_in limit digits.now) }
 {
