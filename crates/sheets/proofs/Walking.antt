@@ -28,27 +28,25 @@ module _ {K Row V : Type 0} (x : Kinds K Row V) where
   answers_count (c ∷ cs) m = ap suc (answers_count cs (map_after x c m))
 
   -- the first i commands have run
-  pub record Walked (seed count : ℕ) (cells₀ scratch₀ : List (Option (Record Row V))) (answers₀ : List (Answer V)) (sheet : List (Command Row V)) (i held : ℕ) (cells scratch : List (Option (Record Row V))) (answers : List (Answer V)) : Type 0 where
+  pub record Walked (seed count : ℕ) (cells₀ : List (Option (Record Row V))) (answers₀ : List (Answer V)) (sheet : List (Command Row V)) (i held : ℕ) (cells : List (Option (Record Row V))) (answers : List (Answer V)) : Type 0 where
     pub laid : (m : List (Record K V)) → Laid x seed m cells₀ → count ≡ length m → Laid x seed (map_after_sheet x (take i sheet) m) cells
     pub counted : (m : List (Record K V)) → Laid x seed m cells₀ → count ≡ length m → held ≡ length (map_after_sheet x (take i sheet) m)
     pub told : (m : List (Record K V)) → Laid x seed m cells₀ → count ≡ length m → answers ≡ answers_to x (take i sheet) m ++ drop i answers₀
-    pub same : scratch ≡ scratch₀
 
-  module _ (seed count : ℕ) (cells₀ scratch₀ : List (Option (Record Row V))) (answers₀ : List (Answer V)) (sheet : List (Command Row V)) where
-    pub walk_start : Walked seed count cells₀ scratch₀ answers₀ sheet 0 count cells₀ scratch₀ answers₀
+  module _ (seed count : ℕ) (cells₀ : List (Option (Record Row V))) (answers₀ : List (Answer V)) (sheet : List (Command Row V)) where
+    pub walk_start : Walked seed count cells₀ answers₀ sheet 0 count cells₀ answers₀
     unfolding answers_to map_after_sheet
-    walk_start = record { laid = λ m h n. h; counted = λ m h n. n; told = λ m h n. refl; same = refl }
+    walk_start = record { laid = λ m h n. h; counted = λ m h n. n; told = λ m h n. refl }
 
-    pub walk_on : (i held : ℕ) (cells scratch : List (Option (Record Row V))) (answers : List (Answer V)) → Walked seed count cells₀ scratch₀ answers₀ sheet i held cells scratch answers
-        → i < length sheet → length sheet ≤ length answers₀ → (c : Command Row V) → c ≡ get_or sheet i c → (cells' scratch' : List (Option (Record Row V))) (r : Answer V × ℕ)
-        → Does x seed held (λ m. map_after x c m) (λ m. answer_to x c m) cells cells' r → scratch' ≡ scratch
-        → (answers' : List (Answer V)) → answers' ≡ set answers i r.0 → Walked seed count cells₀ scratch₀ answers₀ sheet (i + 1) r.1 cells' scratch' answers'
-    walk_on i held cells scratch answers w l room c is cells' scratch' r does same answers' new =
+    pub walk_on : (i held : ℕ) (cells : List (Option (Record Row V))) (answers : List (Answer V)) → Walked seed count cells₀ answers₀ sheet i held cells answers
+        → i < length sheet → length sheet ≤ length answers₀ → (c : Command Row V) → c ≡ get_or sheet i c → (cells' : List (Option (Record Row V))) (r : Answer V × ℕ)
+        → Does x seed held (λ m. map_after x c m) (λ m. answer_to x c m) cells cells' r
+        → (answers' : List (Answer V)) → answers' ≡ set answers i r.0 → Walked seed count cells₀ answers₀ sheet (i + 1) r.1 cells' answers'
+    walk_on i held cells answers w l room c is cells' r does answers' new =
         record {
           laid = λ m h n. subst (λ (t : List (Record K V)). Laid x seed t cells') (sym (after m)) (d m h n).0;
           counted = λ m h n. (d m h n).2 ∙ ap length (sym (after m));
           told = λ m h n. new ∙ written m (d m h n).1 (w.told m h n);
-          same = same ∙ w.same;
         }
       where
         more : take (i + 1) sheet ≡ take i sheet ++ c ∷ []
@@ -71,14 +69,26 @@ module _ {K Row V : Type 0} (x : Kinds K Row V) where
             ∙ sym (append_assoc told (r.0 ∷ []) (drop (i + 1) answers₀))
             ∙ ap (λ (t : List (Answer V)). t ++ drop (i + 1) answers₀) (ap (λ (t : Answer V). told ++ t ∷ []) a ∙ sym (answers_more (take i sheet) c m) ∙ ap (λ (t : List (Command Row V)). answers_to x t m) (sym more))
 
-    pub walk_end : (i held : ℕ) (cells scratch : List (Option (Record Row V))) (answers : List (Answer V)) → Walked seed count cells₀ scratch₀ answers₀ sheet i held cells scratch answers
-        → length sheet ≤ i → i ≤ length sheet → scratch₀ ≡ replicate (length scratch₀) None → RunsAll x seed count sheet cells₀ answers₀ held cells scratch answers
-    walk_end i held cells scratch answers w done inside empty m h n =
+    pub walk_end : (i held : ℕ) (cells : List (Option (Record Row V))) (answers : List (Answer V)) → Walked seed count cells₀ answers₀ sheet i held cells answers
+        → length sheet ≤ i → i ≤ length sheet → (scratch : List (Option (Record Row V))) → scratch ≡ replicate (length scratch) None → RunsAll x seed count sheet cells₀ answers₀ held cells scratch answers
+    walk_end i held cells answers w done inside scratch empty m h n =
         let all : take i sheet ≡ sheet = take_all i sheet done in
         let e : i ≡ length sheet = omega arith in
         record {
           laid = subst (λ (t : List (Command Row V)). Laid x seed (map_after_sheet x t m) cells) all (w.laid m h n);
           counted = w.counted m h n ∙ ap (λ (t : List (Command Row V)). length (map_after_sheet x t m)) all;
-          emptied = w.same ∙ empty ∙ ap (λ (t : List (Option (Record Row V))). replicate (length t) None) (sym w.same);
+          emptied = empty;
           told = w.told m h n ∙ ap (λ (t : List (Command Row V)). answers_to x t m ++ drop i answers₀) all ∙ ap (λ (k : ℕ). answers_to x sheet m ++ drop k answers₀) e;
         }
+
+  -- said of what was lent, and of what the lender finds
+  pub as_lent : {seed seed' count count' held held' : ℕ} {sheet : List (Command Row V)} {lent lent' cells cells' scratch scratch' : List (Option (Record Row V))} {before after : List (Answer V)}
+      → RunsAll x seed count sheet lent before held cells scratch after → seed ≡ seed' → count ≡ count' → lent ≡ lent' → held' ≡ held → cells' ≡ cells → scratch' ≡ scratch
+      → RunsAll x seed' count' sheet lent' before held' cells' scratch' after
+  as_lent {seed = seed} {seed' = seed'} {count = count} {count' = count'} {held = held} {held' = held'} {sheet = sheet} {lent = lent} {lent' = lent'} {cells = cells} {cells' = cells'} {scratch = scratch} {scratch' = scratch'} {before = before} {after = after} r a b c d e f =
+      subst (λ (k : ℕ). RunsAll x k count' sheet lent' before held' cells' scratch' after) a
+      (subst (λ (k : ℕ). RunsAll x seed k sheet lent' before held' cells' scratch' after) b
+      (subst (λ (t : List (Option (Record Row V))). RunsAll x seed count sheet t before held' cells' scratch' after) c
+      (subst (λ (k : ℕ). RunsAll x seed count sheet lent before k cells' scratch' after) (sym d)
+      (subst (λ (t : List (Option (Record Row V))). RunsAll x seed count sheet lent before held t scratch' after) (sym e)
+      (subst (λ (t : List (Option (Record Row V))). RunsAll x seed count sheet lent before held cells t after) (sym f) r)))))

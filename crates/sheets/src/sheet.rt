@@ -11,7 +11,8 @@ use kinds::key::Key;
 use kinds::record::Record;
 use kinds::value::Value;
 use maps::{Answer, Command};
-use table::commands::run;
+use table::commands::Table;
+use table::resize::Scratch;
 
 // Why a sheet is refused.
 #[derive(Clone, Copy, PartialEq, Eq, Debug)]
@@ -87,29 +88,21 @@ fn write_answer<T: Copy>(answers: &mut [T], i: usize, answer: T)
     answers[i] = answer;
 }
 
-// Runs the commands in turn, and gives the count of records after them. `run_sheet` has shown what this asks.
+// Runs the commands in turn.
 fn run_all<K: Key, V: Value>(
-    cells: &mut [Option<Record<K::Row, V>>],
-    scratch: &mut [Option<Record<K::Row, V>>],
+    table: &mut Table<'_, K, V>,
+    scratch: &mut Scratch<'_, Record<K::Row, V>>,
     sheet: &[Command<K::Row, V>],
     answers: &mut [Answer<V>],
-    seed: u32,
-    count: usize,
-) -> usize
-    requires stored { Stores (kinds_of K.Key.kind V.Value.kind) seed count cells.old }
-    requires spare { length scratch.old ≡ 1024 }
-    requires empty { scratch.old ≡ replicate (length scratch.old) None }
+)
     requires room { length sheet.now ≤ length answers.old }
-    ensures { RunsAll (kinds_of K.Key.kind V.Value.kind) seed count sheet.now cells.old answers.old result cells.new scratch.new answers.new }
+    ensures runs { RunsAll (kinds_of K.Key.kind V.Value.kind) table.old.seed table.old.count sheet.now table.old.cells.now answers.old table.new.count table.new.cells.now scratch.new.cells.now answers.new }
+    ensures cells_named { table.new.cells.ghost_name ≡ table.old.cells.ghost_name }
+    ensures scratch_named { scratch.new.cells.ghost_name ≡ scratch.old.cells.ghost_name }
 {
-    let mut held = count;
-    // `zip` with `iter_mut` would leave no fact of what was written.
     for (i, command) in sheet.iter().enumerate() {
-        let (answer, after) = run::<K, V>(cells, scratch, seed, held, *command);
-        write_answer(answers, i, answer);
-        held = after;
+        write_answer(answers, i, table.run(scratch, *command));
     }
-    held
 }
 
 // Runs a sheet on lent cells, scratch and answers: gives the count of records after it, or refuses and leaves all as it was.
@@ -123,6 +116,8 @@ pub fn run_sheet<K: Key, V: Value>(
     ensures { SheetRun (kinds_of K.Key.kind V.Value.kind) shape.seed shape.count shape.capacity sheet.now (record { cells = cells.old; scratch = scratch.old; answers = answers.old }) (record { cells = cells.new; scratch = scratch.new; answers = answers.new }) result }
 {
     check::<K, V>(cells, scratch.len(), sheet, answers.len(), shape)?;
-    scratch.fill(None);
-    Ok(run_all::<K, V>(cells, scratch, sheet, answers, shape.seed, shape.count))
+    let mut spare = Scratch::new(scratch);
+    let mut table = Table::<K, V>::new(cells, shape.seed, shape.count);
+    run_all(&mut table, &mut spare, sheet, answers);
+    Ok(table.count())
 }

@@ -1,5 +1,6 @@
 -- what became of the map that cells hold, at the end of each command
-use Rattle.std.proofs.Common.{◌≡◌, ℕ, ◌+◌, ◌-◌, ◌<◌, ◌≤◌, Bool, true, false, List, ◌++◌, length, take, drop, set, replicate, Some, None, Option, sym, refl, ap, ◌∙◌, subst, arith}
+use Rattle.std.proofs.lemmas.Bool.{cases_eq}
+use Rattle.std.proofs.Common.{◌≡◌, ◌≢◌, inl, inr, ℕ, ◌+◌, ◌-◌, ◌<◌, ◌≤◌, Bool, true, false, List, ◌++◌, length, take, drop, set, replicate, Some, None, Option, sym, refl, ap, ◌∙◌, subst, arith}
 use Rattle.std.proofs.lemmas.List.{set-append_left, take-append-drop}
 use Rattle.std.proofs.lemmas.Bool.{le-leb, lt-leb}
 use Rattle.kinds.specs.Kinds.{KeyLaws}
@@ -45,6 +46,15 @@ module _ {K Row V : Type 0} (x : Kinds K Row V) (laws : KeyLaws x.key) where
     pub kept : (size wanted : ℕ) → size ≡ capacity count → wanted ≡ size → (cells₁ : List (Option (Record Row V))) → cells₁ ≡ cells → Opened x seed wanted m cells₁
     kept size wanted e s cells₁ q = subst (Opened x seed wanted m) (sym q) (opened x laws seed wanted count m cells h (s ∙ e) n)
 
+    pub ready : (size wanted : ℕ) → size ≡ capacity count → length m < wanted → wanted ≤ 1024 → (cells₁ : List (Option (Record Row V))) → (wanted ≡ size → cells₁ ≡ cells)
+        → (wanted ≢ size → cells₁ ≡ layout (row_rule x seed wanted) (records_of (row_order x) (take size cells)) ++ replicate (length cells - wanted) None)
+        → Opened x seed wanted m cells₁
+    ready size wanted e room most cells₁ same other =
+        elim (cases_eq wanted size) [
+          | inl q ↦ kept size wanted e q cells₁ (same q)
+          | inr d ↦ resized size wanted e room most cells₁ (other d)
+        ]
+
     module _ (size : ℕ) (e : size ≡ capacity count) where
       o : Opened x seed size m cells
       o = opened x laws seed size count m cells h e n
@@ -72,6 +82,9 @@ module _ {K Row V : Type 0} (x : Kinds K Row V) (laws : KeyLaws x.key) where
           (record { seed = h.lawful.seed; ascending = maps.put_ascends (merged x) (λ old new e. refl) (record { key = k; value = v }) m h.lawful.ascending; few = omega (arith, longer) })
           (w ∙ ap capacity (let z : count + 1 ≡ length (with_pair x k v m) = omega (arith, longer) in z))
           (put_in x laws seed wanted m cells₁ o₁ k v cells₂ (is ∙ ap (λ (t : Row). cells_with x seed (record { key = t; value = v }) (take wanted cells₁) ++ drop wanted cells₁) r))
+
+      pub longer : held_by x (Some k) (take size cells) ≡ None → (v : V) → count + 1 ≡ length (with_pair x k v m)
+      longer none v = omega (arith, maps.put_new (merged x) (record { key = k; value = v }) m h.lawful.ascending (gone none))
 
       -- the record left behind by a removal
       pub removed : (p : Option K) (cells₁ : List (Option (Record Row V))) (i : ℕ) (y : Record Row V) → Finds x (take size cells) k (Some (i, y)) → p ≡ Some k

@@ -1,5 +1,6 @@
 -- lent cells that hold a map, opened as cells over rows, and closed again
-use Rattle.std.proofs.Common.{◌≡◌, ℕ, ◌-◌, ◌<◌, ◌≤◌, List, ◌++◌, map, length, take, drop, replicate, Some, None, Option, sym, refl, ap, ◌∙◌, subst, arith, length-append}
+use Rattle.std.proofs.lemmas.Bool.{cases_eq}
+use Rattle.std.proofs.Common.{◌≡◌, ◌≢◌, inl, inr, ℕ, ◌-◌, ◌<◌, ◌≤◌, List, ◌++◌, map, length, take, drop, replicate, Some, None, Option, sym, refl, ap, ◌∙◌, subst, arith, length-append}
 use lib.ListN.{length-replicate}
 use Rattle.std.proofs.lemmas.List.{take_at, drop_at, length-map}
 use Rattle.kinds.specs.Kinds.{KeyLaws}
@@ -94,6 +95,16 @@ module _ {K Row V : Type 0} (x : Kinds K Row V) (laws : KeyLaws x.key) where
         e
         ∙ ap (λ (n : List (Record Row V)). layout (row_rule x seed wanted) n ++ replicate (length cells - wanted) None) o.records
         ∙ ap (λ (n : ℕ). layout (row_rule x seed wanted) (map (lent x) m) ++ replicate (n - wanted) None) o.size
+
+    -- or left as they are, where they have that capacity
+    pub moved_or_kept : (wanted : ℕ) (cells' : List (Option (Record Row V))) → cells ≡ rows_laid seed cap m → (wanted ≡ cap → cells' ≡ cells)
+        → (wanted ≢ cap → cells' ≡ layout (row_rule x seed wanted) (records_of (row_order x) (take cap cells)) ++ replicate (length cells - wanted) None)
+        → cells' ≡ rows_laid seed wanted m
+    moved_or_kept wanted cells' is same other =
+        elim (cases_eq wanted cap) [
+          | inl q ↦ same q ∙ is ∙ ap (λ (n : ℕ). rows_laid seed n m) (sym q)
+          | inr d ↦ moved wanted cells' (other d)
+        ]
 
     pub put_in : (k : K) (v : V) (cells' : List (Option (Record Row V))) → cells' ≡ cells_with x seed (lent x (record { key = k; value = v })) (take cap cells) ++ drop cap cells
         → cells' ≡ rows_laid seed cap (with_pair x k v m)

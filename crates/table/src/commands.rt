@@ -1,14 +1,14 @@
-// The commands, on 1024 lent cells that hold a map of `count` records. Their caller shows that the cells do, and that
-// the 1024 cells of scratch are empty; they are left so.
-ghost use Rattle.std.specs.Prelude.{◌≡◌, ◌<◌, length, take, replicate, Some, None, slice_set};
-ghost use Rattle.layout.specs.Capacity.{capacity as demanded};
-ghost use Rattle.maps.specs.Commands.{found, is_full, with_pair, without_key, put_answer, put_after, drop_answer, get_answer, answer_to, map_after};
+// The commands, on the map that 1024 lent cells hold.
+ghost use Rattle.std.specs.Prelude.{◌≡◌, ◌+◌, ◌<◌, take, Some, None};
+ghost use Rattle.layout.specs.Capacity.{capacity};
+ghost use Rattle.maps.specs.Commands.{found, is_full, with_pair, without_key, put_answer, put_after, drop_answer, answer_to, map_after};
 ghost use Rattle.maps.specs.Maps.{kinds_of};
 ghost use Rattle.table.specs.Rows.{Finds, held_by};
-ghost use Rattle.table.specs.Runs.{Stores, Turns, Does, Tells};
+ghost use Rattle.table.specs.Runs.{Stores, Turns, Does};
 
-use crate::fronts::{insert_front, lookup_front, remove_front};
-use crate::resize::resize;
+use crate::resize::{Scratch, resize};
+use crate::stored::Stored;
+use crate::walks::{insert, remove};
 use cells::ring::capacity_of;
 use kinds::key::Key;
 use kinds::record::Record;
@@ -18,171 +18,152 @@ use maps::{Answer, Command};
 // A map has at most so many records.
 pub const MOST_RECORDS: usize = 768;
 
-fn overwrite<R: Copy>(cells: &mut [Option<R>], place: usize, new: R)
-    requires { place < length cells.old }
-    ensures { cells.new ≡ slice_set cells.old place (Some new) }
-{
-    cells[place] = Some(new);
-}
-
-// Adds a key that is not there. Where one record more demands more cells, the others are laid out in them first.
-fn add<K: Key, V: Value>(
-    cells: &mut [Option<Record<K::Row, V>>],
-    scratch: &mut [Option<Record<K::Row, V>>],
+// Cells that hold a map of `count` records under a seed.
+#[derive(Drop)]
+pub struct Table<'a, K: Key, V: Value> {
+    cells: &'a mut [Option<Record<K::Row, V>>],
     seed: u32,
     count: usize,
-    key: K,
-    value: V,
-)
-    requires stored { Stores (kinds_of K.Key.kind V.Value.kind) seed count cells.old }
-    requires spare { length scratch.old ≡ 1024 }
-    requires empty { scratch.old ≡ replicate (length scratch.old) None }
-    requires few { count < 768 }
-    requires absent { held_by (kinds_of K.Key.kind V.Value.kind) (Some key) (take (demanded count) cells.old) ≡ None }
-    ensures cells { Turns (kinds_of K.Key.kind V.Value.kind) seed count (λ m. with_pair (kinds_of K.Key.kind V.Value.kind) key value m) cells.old cells.new }
-    ensures scratch { scratch.new ≡ scratch.old }
-{
-    let size = capacity_of(count);
-    let wanted = capacity_of(count + 1);
-    if wanted != size {
-        resize::<K, V>(cells, scratch, seed, size, wanted);
+    ghost stored: { ∥ Stores (kinds_of K.Key.kind V.Value.kind) seed count cells.now ∥₁ },
+}
+
+impl<'a, K: Key, V: Value> Table<'a, K, V> {
+    pub fn new(cells: &'a mut [Option<Record<K::Row, V>>], seed: u32, count: usize) -> Self
+        requires { ∥ Stores (kinds_of K.Key.kind V.Value.kind) seed count cells.old ∥₁ }
+        ensures cells { result.cells.now ≡ cells.old }
+        ensures cells_named { result.cells.ghost_name ≡ cells.entry.ghost_name }
+        ensures seed { result.seed ≡ seed }
+        ensures count { result.count ≡ count }
+    {
+        Table { cells, seed, count }
     }
-    let new = Record {
-        key: key.to_row(),
-        value,
-    };
-    insert_front::<K, V>(cells, wanted, seed, new);
-}
 
-// Takes out the record of a key that was found. Where one record less demands fewer cells, the others are then laid out in them.
-fn take_out<K: Key, V: Value>(
-    cells: &mut [Option<Record<K::Row, V>>],
-    scratch: &mut [Option<Record<K::Row, V>>],
-    seed: u32,
-    count: usize,
-    key: K,
-    place: usize,
-    old: Record<K::Row, V>,
-)
-    requires stored { Stores (kinds_of K.Key.kind V.Value.kind) seed count cells.old }
-    requires spare { length scratch.old ≡ 1024 }
-    requires empty { scratch.old ≡ replicate (length scratch.old) None }
-    requires there { Finds (kinds_of K.Key.kind V.Value.kind) (take (demanded count) cells.old) key (Some (place, old)) }
-    ensures cells { Turns (kinds_of K.Key.kind V.Value.kind) seed count (λ m. without_key (kinds_of K.Key.kind V.Value.kind) key m) cells.old cells.new }
-    ensures scratch { scratch.new ≡ scratch.old }
-{
-    let size = capacity_of(count);
-    remove_front::<K, V>(cells, size, seed, place, old);
-    let wanted = capacity_of(count - 1);
-    if wanted != size {
-        resize::<K, V>(cells, scratch, seed, size, wanted);
+    pub fn count(&self) -> usize
+        ensures { result ≡ self.now.count }
+    {
+        self.count // of records
     }
-}
 
-// Put: joined to the value that is there; else a new record, unless the map is full.
-fn run_put<K: Key, V: Value>(
-    cells: &mut [Option<Record<K::Row, V>>],
-    scratch: &mut [Option<Record<K::Row, V>>],
-    seed: u32,
-    count: usize,
-    key: K,
-    value: V,
-) -> (Answer<V>, usize)
-    requires stored { Stores (kinds_of K.Key.kind V.Value.kind) seed count cells.old }
-    requires spare { length scratch.old ≡ 1024 }
-    requires empty { scratch.old ≡ replicate (length scratch.old) None }
-    ensures done { Does (kinds_of K.Key.kind V.Value.kind) seed count (λ m. put_after (found (kinds_of K.Key.kind V.Value.kind) key m) (is_full m) m (with_pair (kinds_of K.Key.kind V.Value.kind) key value m)) (λ m. put_answer (kinds_of K.Key.kind V.Value.kind) value (found (kinds_of K.Key.kind V.Value.kind) key m) (is_full m)) cells.old cells.new result }
-    ensures scratch { scratch.new ≡ scratch.old }
-{
-    let size = capacity_of(count);
-    let held: Option<(usize, Record<K::Row, V>)> = lookup_front(cells, size, seed, key);
-    match held {
-        Some((place, old)) => {
-            let both = old.value.join(value);
-            overwrite(
-                cells,
-                place,
-                Record {
+    fn stored(&self) -> Stored<'_, K, V>
+        ensures cells { result.cells.now ≡ self.now.cells.now }
+        ensures seed { result.seed ≡ self.now.seed }
+        ensures count { result.count ≡ self.now.count }
+    {
+        Stored::new(self.cells, self.seed, self.count)
+    }
+
+    // Where the record of a key stands, with the record.
+    fn find(&self, key: K) -> Option<(usize, Record<K::Row, V>)>
+        ensures { Finds (kinds_of K.Key.kind V.Value.kind) (take (capacity self.now.count) self.now.cells.now) key result }
+    {
+        self.stored().find(key)
+    }
+
+    // Adds a key that is not there. Where one record more demands more cells, the others are laid out in them first.
+    fn add(&mut self, scratch: &mut Scratch<'_, Record<K::Row, V>>, key: K, value: V)
+        requires few { self.old.count < 768 }
+        requires absent { held_by (kinds_of K.Key.kind V.Value.kind) (Some key) (take (capacity self.old.count) self.old.cells.now) ≡ None }
+        ensures cells { Turns (kinds_of K.Key.kind V.Value.kind) self.old.seed self.old.count (λ m. with_pair (kinds_of K.Key.kind V.Value.kind) key value m) self.old.cells.now self.new.cells.now }
+        ensures count { self.new.count ≡ self.old.count + 1 }
+        ensures seed { self.new.seed ≡ self.old.seed }
+        ensures cells_named { self.new.cells.ghost_name ≡ self.old.cells.ghost_name }
+        ensures scratch_named { scratch.new.cells.ghost_name ≡ scratch.old.cells.ghost_name }
+    {
+        let size = capacity_of(self.count);
+        let wanted = capacity_of(self.count + 1);
+        let new = Record {
+            key: key.to_row(),
+            value,
+        };
+        let cells = &mut *self.cells;
+        resize::<K, V>(cells, scratch.cells, self.seed, size, wanted);
+        insert::<K, V>(&mut cells[..wanted], self.seed, new);
+        self.count += 1;
+    }
+
+    // Takes out the record of a key that was found. Where one record less demands fewer cells, the others are then laid
+    // out in them.
+    fn take_out(
+        &mut self,
+        scratch: &mut Scratch<'_, Record<K::Row, V>>,
+        key: K,
+        place: usize,
+        old: Record<K::Row, V>,
+    )
+        requires { Finds (kinds_of K.Key.kind V.Value.kind) (take (capacity self.old.count) self.old.cells.now) key (Some (place, old)) }
+        ensures cells { Turns (kinds_of K.Key.kind V.Value.kind) self.old.seed self.old.count (λ m. without_key (kinds_of K.Key.kind V.Value.kind) key m) self.old.cells.now self.new.cells.now }
+        ensures count { self.new.count + 1 ≡ self.old.count }
+        ensures seed { self.new.seed ≡ self.old.seed }
+        ensures cells_named { self.new.cells.ghost_name ≡ self.old.cells.ghost_name }
+        ensures scratch_named { scratch.new.cells.ghost_name ≡ scratch.old.cells.ghost_name }
+    {
+        let size = capacity_of(self.count);
+        let wanted = capacity_of(self.count - 1);
+        let cells = &mut *self.cells;
+        remove::<K, V>(&mut cells[..size], self.seed, place, old);
+        resize::<K, V>(cells, scratch.cells, self.seed, size, wanted);
+        self.count -= 1;
+    }
+
+    // Put: joined to the value that is there; else a new record, unless the map is full.
+    fn put(&mut self, scratch: &mut Scratch<'_, Record<K::Row, V>>, key: K, value: V) -> Answer<V>
+        ensures done { Does (kinds_of K.Key.kind V.Value.kind) self.old.seed self.old.count (λ m. put_after (found (kinds_of K.Key.kind V.Value.kind) key m) (is_full m) m (with_pair (kinds_of K.Key.kind V.Value.kind) key value m)) (λ m. put_answer (kinds_of K.Key.kind V.Value.kind) value (found (kinds_of K.Key.kind V.Value.kind) key m) (is_full m)) self.old.cells.now self.new.cells.now (result, self.new.count) }
+        ensures seed { self.new.seed ≡ self.old.seed }
+        ensures cells_named { self.new.cells.ghost_name ≡ self.old.cells.ghost_name }
+        ensures scratch_named { scratch.new.cells.ghost_name ≡ scratch.old.cells.ghost_name }
+    {
+        match self.find(key) {
+            Some((place, old)) => {
+                let both = old.value.join(value);
+                self.cells[place] = Some(Record {
                     key: key.to_row(),
                     value: both,
-                },
-            );
-            (Answer::Joined(both), count)
-        }
-        None => {
-            if count >= MOST_RECORDS {
-                (Answer::Full, count)
-            } else {
-                add(cells, scratch, seed, count, key, value);
-                (Answer::New(value), count + 1)
+                });
+                Answer::Joined(both)
+            }
+            None => {
+                if self.count >= MOST_RECORDS {
+                    return Answer::Full;
+                }
+                self.add(scratch, key, value);
+                Answer::New(value)
             }
         }
     }
-}
 
-fn run_drop<K: Key, V: Value>(
-    cells: &mut [Option<Record<K::Row, V>>],
-    scratch: &mut [Option<Record<K::Row, V>>],
-    seed: u32,
-    count: usize,
-    key: K,
-) -> (Answer<V>, usize)
-    requires stored { Stores (kinds_of K.Key.kind V.Value.kind) seed count cells.old }
-    requires spare { length scratch.old ≡ 1024 }
-    requires empty { scratch.old ≡ replicate (length scratch.old) None }
-    ensures done { Does (kinds_of K.Key.kind V.Value.kind) seed count (λ m. without_key (kinds_of K.Key.kind V.Value.kind) key m) (λ m. drop_answer (found (kinds_of K.Key.kind V.Value.kind) key m)) cells.old cells.new result }
-    ensures scratch { scratch.new ≡ scratch.old }
-{
-    let size = capacity_of(count);
-    let held: Option<(usize, Record<K::Row, V>)> = lookup_front(cells, size, seed, key);
-    match held {
-        Some((place, old)) => {
-            take_out(cells, scratch, seed, count, key, place, old);
-            (Answer::Dropped(old.value), count - 1)
+    fn drop_key(&mut self, scratch: &mut Scratch<'_, Record<K::Row, V>>, key: K) -> Answer<V>
+        ensures done { Does (kinds_of K.Key.kind V.Value.kind) self.old.seed self.old.count (λ m. without_key (kinds_of K.Key.kind V.Value.kind) key m) (λ m. drop_answer (found (kinds_of K.Key.kind V.Value.kind) key m)) self.old.cells.now self.new.cells.now (result, self.new.count) }
+        ensures seed { self.new.seed ≡ self.old.seed }
+        ensures cells_named { self.new.cells.ghost_name ≡ self.old.cells.ghost_name }
+        ensures scratch_named { scratch.new.cells.ghost_name ≡ scratch.old.cells.ghost_name }
+    {
+        match self.find(key) {
+            Some((place, old)) => {
+                self.take_out(scratch, key, place, old);
+                Answer::Dropped(old.value)
+            }
+            None => Answer::Absent,
         }
-        None => (Answer::Absent, count),
     }
-}
 
-// Tells the value of a key. As for all here, the caller shows that the cells hold a map of `count` records.
-pub fn run_get<K: Key, V: Value>(
-    cells: &[Option<Record<K::Row, V>>],
-    seed: u32,
-    count: usize,
-    key: K,
-) -> Answer<V>
-    requires stored { Stores (kinds_of K.Key.kind V.Value.kind) seed count cells.now }
-    ensures { Tells (kinds_of K.Key.kind V.Value.kind) seed count (λ m. get_answer (found (kinds_of K.Key.kind V.Value.kind) key m)) cells.now result }
-{
-    let size = capacity_of(count);
-    let held: Option<(usize, Record<K::Row, V>)> = lookup_front(cells, size, seed, key);
-    match held {
-        Some((_, old)) => Answer::Found(old.value),
-        None => Answer::Absent,
-    }
-}
-
-// Runs one command: gives its answer, and the count of records after it.
-pub fn run<K: Key, V: Value>(
-    cells: &mut [Option<Record<K::Row, V>>],
-    scratch: &mut [Option<Record<K::Row, V>>],
-    seed: u32,
-    count: usize,
-    command: Command<K::Row, V>,
-) -> (Answer<V>, usize)
-    requires stored { Stores (kinds_of K.Key.kind V.Value.kind) seed count cells.old }
-    requires spare { length scratch.old ≡ 1024 }
-    requires empty { scratch.old ≡ replicate (length scratch.old) None }
-    ensures done { Does (kinds_of K.Key.kind V.Value.kind) seed count (λ m. map_after (kinds_of K.Key.kind V.Value.kind) command m) (λ m. answer_to (kinds_of K.Key.kind V.Value.kind) command m) cells.old cells.new result }
-    ensures scratch { scratch.new ≡ scratch.old }
-{
-    let known: Option<K> = K::from_row(command.row());
-    match known {
-        None => (Answer::Absent, count),
-        Some(key) => match command {
-            Command::Put(_, value) => run_put(cells, scratch, seed, count, key, value),
-            Command::Drop(_) => run_drop(cells, scratch, seed, count, key),
-            Command::Get(_) => (run_get(cells, seed, count, key), count),
-        },
+    // Runs one command, and tells its answer.
+    pub fn run(
+        &mut self,
+        scratch: &mut Scratch<'_, Record<K::Row, V>>,
+        command: Command<K::Row, V>,
+    ) -> Answer<V>
+        ensures done { Does (kinds_of K.Key.kind V.Value.kind) self.old.seed self.old.count (λ m. map_after (kinds_of K.Key.kind V.Value.kind) command m) (λ m. answer_to (kinds_of K.Key.kind V.Value.kind) command m) self.old.cells.now self.new.cells.now (result, self.new.count) }
+        ensures seed { self.new.seed ≡ self.old.seed }
+        ensures cells_named { self.new.cells.ghost_name ≡ self.old.cells.ghost_name }
+        ensures scratch_named { scratch.new.cells.ghost_name ≡ scratch.old.cells.ghost_name }
+    {
+        let Some(key) = K::from_row(command.row()) else {
+            return Answer::Absent;
+        };
+        match command {
+            Command::Put(_, value) => self.put(scratch, key, value),
+            Command::Drop(_) => self.drop_key(scratch, key),
+            Command::Get(_) => self.stored().get(key),
+        }
     }
 }

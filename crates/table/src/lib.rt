@@ -2,6 +2,6 @@
 #![tactic(auto)]
 
 pub mod commands;
-pub mod fronts;
 pub mod resize;
+pub mod stored;
 pub mod walks;
