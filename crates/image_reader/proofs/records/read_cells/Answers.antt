@@ -12,9 +12,6 @@ loop-c-init g c =
     let cap = length c.args.cells.now in
     begin g.row.F.Denot (kinds_of g.K.Key.kind g.V.Value.kind) c.args.bytes.now cap (32 + cap / 8) c.args.cells.now c.requires
 
-pub record_at-requires : goal.record_at-requires
-record_at-requires g c = c.loop-c.invariant.0
-
 pub overflow_add-at-then-is_marked : goal.overflow_add-at-then-is_marked
 overflow_add-at-then-is_marked g c =
     let x = kinds_of g.K.Key.kind g.V.Value.kind in

@@ -1,6 +1,6 @@
 use Rattle.std.proofs.Common.{◌<◌, arith, rules}
 use Rattle.std.proofs.lemmas.Result.{err_from_is_err_and}
-use Rattle.image_store.proofs.Blocks.{copies, stops, ends}
+use Rattle.image_store.proofs.Blocks.{copies, stops}
 use Rattle.image_store.proofs.load.load.Goals as goal
 
 pub returns-in_err-read : goal.returns-in_err-read
@@ -18,10 +18,3 @@ loop-i-preserved g c =
     let l : c.loop-i.i < g.S.Store.count s = omega (arith, c.loop-i-test.true, c.count-i-end.ensures) in
     copies (g.S.Store.shown s) (g.S.Store.count s) (g.S.Store.lengths s).of_shown c.loop-i.i c.loop-i.work c.loop-i.invariant
     c.in_ok-read.field-0 _ l (omega (arith, c.requires, c.loop-i.auto.work)) c.in_ok-read.ensures (search rules) c.overwrite.ensures
-
-pub returns : goal.returns
-returns g c =
-    let s = c.args.store.now in
-    let a = ends (g.S.Store.shown s) (g.S.Store.count s) (g.S.Store.lengths s).of_shown c.loop-i.i c.loop-i.work c.loop-i.invariant
-    (omega (arith, c.loop-i-test.false, c.count-i-end.ensures)) in
-    record { answer = a.0; bytes = a.1 }
