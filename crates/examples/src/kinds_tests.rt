@@ -59,9 +59,8 @@ fn a_record_is_written_and_read_back(rt: HostRuntime) -> Result<(), Fail> {
     assert_eq!(rt; end, 8);
     assert_eq!(rt; bytes, [0, 0, 1, 2, 3, 4, 5, 6, 0]);
     assert!(rt; Record::<StaffNumber, Papers>::read(&bytes[..5]).is_err());
-    let (back, len) = Record::<StaffNumber, Papers>::read(&bytes[2..]).map_err(|_| Fail::new(
-        "a record stands there",
-    ))?;
+    let read = Record::<StaffNumber, Papers>::read(&bytes[2..]);
+    let (back, len) = read.map_err(|_| Fail::new("a record stands there"))?;
     assert_eq!(rt; back.key.number(), 0x0102_0304);
     assert_eq!(rt; back.value.bits(), 0x0506);
     assert_eq!(rt; len, 6);
