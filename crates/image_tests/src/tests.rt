@@ -39,19 +39,18 @@ fn refusal(bytes: &[u8]) -> Option<(u8, usize)> {
 }
 
 // The example with byte `i` changed.
-fn spoilt(i: usize, byte: u8) -> Option<(u8, usize)>
-    requires { i < 64 }
-{
+fn spoilt(i: usize, byte: u8) -> Option<(u8, usize)> {
     let mut bytes = example();
-    bytes[i] = byte;
+    if let Some(spoilt) = bytes.get_mut(i) {
+        *spoilt = byte;
+    }
     refusal(&bytes)
 }
 
 // The first `n` bytes of the example.
-fn shortened(n: usize) -> Option<(u8, usize)>
-    requires { n ≤ 64 }
-{
-    refusal(&example()[..n])
+fn shortened(n: usize) -> Option<(u8, usize)> {
+    let bytes = example();
+    bytes.get(..n).and_then(refusal)
 }
 
 // A cell in plain numbers.
