@@ -1,5 +1,3 @@
-ghost use Rattle.std.specs.Prelude.{◌<◌, ◌≤◌};
-
 use crate::copy_image;
 use image::fault::ImageFault;
 use image_reader::reader::read_image;
