@@ -67,6 +67,7 @@ fn answer_batch<S: Store>(
     ensures { IfOk result (λ sealed. IsTrue sealed → length (unread lines.new) < length (unread lines.old)) }
 {
     let mut sheet = Vec::new(rt.alloc());
+    // A `for` over `by_ref` tells less: that lines are used up stays open at its `return`.
     while let Some(line) = lines.next() {
         let Ok(line) = parse(line) else {
             answer_sheet(rt, desk, batch, &mut sheet)?;
