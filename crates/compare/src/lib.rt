@@ -10,7 +10,7 @@ use kinds::key::Key;
 use kinds::record::Record;
 use kinds::value::Value;
 use maps::Answer;
-use table::commands::run_get;
+use table::stored::Stored;
 
 // Values are equal exactly when their codes are.
 fn same_value<V: Value>(left: &V, right: &V) -> bool
@@ -20,6 +20,7 @@ fn same_value<V: Value>(left: &V, right: &V) -> bool
     if right.code_len() != len {
         return false;
     }
+    // In a chain the closure would need a clause for what `code_at` asks: no plainer.
     for i in 0..len {
         if left.code_at(i) != right.code_at(i) {
             return false;
@@ -29,46 +30,26 @@ fn same_value<V: Value>(left: &V, right: &V) -> bool
 }
 
 // Whether a table has the record.
-fn has_record<K: Key, V: Value>(
-    cells: &[Option<Record<K::Row, V>>],
-    seed: u32,
-    count: usize,
-    wanted: Record<K::Row, V>,
-) -> bool
-    requires { Stores (kinds_of K.Key.kind V.Value.kind) seed count cells.now }
-    ensures { Has (kinds_of K.Key.kind V.Value.kind) seed cells.now wanted result }
+fn has_record<K: Key, V: Value>(table: &Stored<'_, K, V>, wanted: Record<K::Row, V>) -> bool
+    ensures { Has (kinds_of K.Key.kind V.Value.kind) table.now.seed table.now.cells.now wanted result }
 {
-    let known: Option<K> = K::from_row(wanted.key);
-    match known {
-        None => false,
-        Some(key) => {
-            let answer: Answer<V> = run_get::<K, V>(cells, seed, count, key);
-            match answer {
-                Answer::Found(value) => same_value(&value, &wanted.value),
-                _ => false,
-            }
-        }
+    let Some(key) = K::from_row(wanted.key) else {
+        return false;
+    };
+    match table.get(key) {
+        Answer::Found(value) => same_value(&value, &wanted.value),
+        _ => false,
     }
 }
 
 // Whether a table has each record of the given cells.
-fn has_all<K: Key, V: Value>(
-    cells: &[Option<Record<K::Row, V>>],
-    seed: u32,
-    count: usize,
-    rows: &[Option<Record<K::Row, V>>],
-) -> bool
-    requires { Stores (kinds_of K.Key.kind V.Value.kind) seed count cells.now }
-    ensures { HasAll (kinds_of K.Key.kind V.Value.kind) seed cells.now rows.now result }
+fn has_all<K: Key, V: Value>(table: &Stored<'_, K, V>, rows: &[Option<Record<K::Row, V>>]) -> bool
+    ensures { HasAll (kinds_of K.Key.kind V.Value.kind) table.now.seed table.now.cells.now rows.now result }
 {
-    for i in 0..rows.len() {
-        let row = rows[i];
-        match row {
-            None => {}
-            Some(wanted) => {
-                if !has_record::<K, V>(cells, seed, count, wanted) {
-                    return false;
-                }
+    for row in rows {
+        if let Some(wanted) = row {
+            if !has_record::<K, V>(table, *wanted) {
+                return false;
             }
         }
     }
@@ -88,5 +69,5 @@ pub fn same_map<K: Key, V: Value>(
     ensures { Compares (kinds_of K.Key.kind V.Value.kind) cells.now other.now result }
 {
     // With as many records, a table that has all of these has no others.
-    count == other_count && has_all::<K, V>(other, other_seed, other_count, cells)
+    count == other_count && has_all(&Stored::<K, V>::new(other, other_seed, other_count), cells)
 }
