@@ -1,7 +1,7 @@
 // Lent cells, which hold the plain rows of keys.
 ghost use Rattle.image.specs.Rows.{keyed};
 ghost use Rattle.maps.specs.Maps.{kinds_of};
-ghost use Rattle.std.specs.Prelude.{◌≡◌, length, replicate, None};
+ghost use Rattle.std.specs.Prelude.{◌≡◌};
 
 use kinds::key::Key;
 use kinds::record::Record;
@@ -14,12 +14,4 @@ pub fn record_of<K: Key, V: Value>(cell: Option<Record<K::Row, V>>) -> Option<Re
     let Record { key, value } = cell?;
     let key = K::from_row(key)?;
     Some(Record { key, value })
-}
-
-pub fn clear<T: Copy>(cells: &mut [Option<T>])
-    ensures { cells.new ≡ replicate (length cells.old) None }
-{
-    for cell in cells.iter_mut() {
-        *cell = None;
-    }
 }

@@ -1,6 +1,5 @@
-use Rattle.std.proofs.Common.{sym, ap, ◌∙◌, arith}
+use Rattle.std.proofs.Common.{arith}
 use Rattle.maps.specs.Maps.{kinds_of, contents}
-use Rattle.image.specs.Image.{image}
 use Rattle.image_reader.proofs.Ends.{filling}
 use Rattle.image_tests.proofs.copy_image.Goals as goal
 
@@ -9,9 +8,3 @@ write_image-requires g c =
     let x = kinds_of g.K.Key.kind g.V.Value.kind in
     let e = c.in_ok-seed.ensures.exact in
     (e.0, record { laid = e.1; counts = e.2 }, omega (arith, filling x c.args.bytes.now (contents c.in_ok-seed.seed e.0) e.3, c.requires.room))
-
-pub returns : goal.returns
-returns g c =
-    let x = kinds_of g.K.Key.kind g.V.Value.kind in
-    let e = c.in_ok-seed.ensures.exact in
-    c.write_image.ensures.image e.0 (record { laid = e.1; counts = e.2 }) ∙ ap (λ n. image x n (contents c.in_ok-seed.seed e.0)) c.requires.room ∙ sym e.3
