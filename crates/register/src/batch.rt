@@ -26,7 +26,8 @@ pub struct Closed<S> {
     store: S,
 }
 
-// An open batch: what it knows of the cells that its holder keeps. The kinds are known by their numbers, since any type may be a kind.
+// An open batch: what it knows of the cells that its holder keeps. The kinds are known by their numbers, which stand in
+// the image, since any type may be a kind: a rule of the project.
 #[derive(Drop)]
 pub struct Open<S> {
     store: S,

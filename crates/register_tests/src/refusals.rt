@@ -27,7 +27,7 @@ fn opening_refusal<S: Store>(
     }
 }
 
-// What seal is refused with; the batch is then abandoned.
+// What seal is refused with; the batch is then abandoned. It lies in the other variant here, so one function for both is no plainer.
 fn sealing_refusal<S: Store>(
     sealing: Sealing<S>,
     cells: &mut [Option<Record<u32, Papers>>],

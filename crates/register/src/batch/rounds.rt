@@ -16,7 +16,7 @@ use maps::{Answer, Command};
 use store::store::Store;
 
 // Starts a batch, enters the sheet and seals; what can't be sealed is abandoned. The calls made are a list of calls
-// of the kind that the claims speak of, so these are not empty.
+// of the kind that the claims speak of, so these are not empty. The pieces are lent as slices: a rule of the project.
 pub fn keep_sheet<S: Store, K: Key, V: Value>(
     closed: Closed<S>,
     seed: u32,
