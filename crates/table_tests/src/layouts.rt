@@ -27,10 +27,8 @@ fn enter(
             capacity: capacity_of(count),
         },
     );
-    match left {
-        Ok(after) => Ok((answers[0], after)),
-        Err(_) => Err(Fail::new("refused")),
-    }
+    let after = left.map_err(|_| Fail::new("refused"))?;
+    Ok((answers[0], after))
 }
 
 fn put_all(
@@ -47,21 +45,14 @@ fn put_all(
 }
 
 fn stands(cells: &[Option<Record<u32, Papers>>], place: usize, key: u32) -> bool {
-    if place >= cells.len() {
-        return false;
-    }
-    let cell = cells[place];
-    match cell {
-        Some(found) => found.key == key,
-        None => false,
-    }
+    matches!(cells.get(place), Some(Some(found)) if found.key == key)
 }
 
 #[test]
 fn two_keys_of_one_home(rt: HostRuntime) -> Result<(), Fail> {
     let mut cells = [None; 1024];
     let count = put_all(&mut cells, 0, &[9, 1])?;
-    assert!(rt; count == 2);
+    assert_eq!(rt; count, 2);
     assert!(rt; stands(&cells, 4, 1) && stands(&cells, 5, 9));
     Ok(())
 }
@@ -72,7 +63,7 @@ fn a_drop_shifts_back_past_one_that_stays(rt: HostRuntime) -> Result<(), Fail> {
     let count = put_all(&mut cells, 0, &[9, 6, 1])?;
     assert!(rt; stands(&cells, 4, 1) && stands(&cells, 5, 6) && stands(&cells, 6, 9));
     let (_, after) = enter(&mut cells, count, Command::Drop(1))?;
-    assert!(rt; after == 2);
+    assert_eq!(rt; after, 2);
     assert!(rt; stands(&cells, 4, 9) && stands(&cells, 5, 6));
     Ok(())
 }
@@ -94,7 +85,7 @@ fn the_seventh_key_grows_and_its_drop_shrinks(rt: HostRuntime) -> Result<(), Fai
     assert!(rt; stands(&cells, 4, 1) && stands(&cells, 1, 2) && stands(&cells, 6, 3));
     assert!(rt; stands(&cells, 3, 4) && stands(&cells, 0, 5) && stands(&cells, 5, 6));
     let seven = put_all(&mut cells, six, &[7])?;
-    assert!(rt; capacity_of(seven) == 16);
+    assert_eq!(rt; capacity_of(seven), 16);
     assert!(rt;
         stands(&cells, 9, 1)
             && stands(&cells, 3, 2)
@@ -103,7 +94,7 @@ fn the_seventh_key_grows_and_its_drop_shrinks(rt: HostRuntime) -> Result<(), Fai
     );
     assert!(rt; stands(&cells, 1, 5) && stands(&cells, 11, 6) && stands(&cells, 5, 7));
     let (_, after) = enter(&mut cells, seven, Command::Drop(7))?;
-    assert!(rt; after == 6);
+    assert_eq!(rt; after, 6);
     assert!(rt; stands(&cells, 4, 1) && stands(&cells, 1, 2) && stands(&cells, 6, 3));
     assert!(rt; stands(&cells, 3, 4) && stands(&cells, 0, 5) && stands(&cells, 5, 6));
     Ok(())
@@ -122,15 +113,13 @@ fn put_below(cells: &mut [Option<Record<u32, Papers>>], end: u32) -> Result<usiz
 fn the_769th_key_is_refused(rt: HostRuntime) -> Result<(), Fail> {
     let mut cells = [None; 1024];
     let count = put_below(&mut cells, 768)?;
-    assert!(rt; count == 768);
+    assert_eq!(rt; count, 768);
     let (refused, still) = enter(&mut cells, count, Command::Put(768, Papers::new(1)))?;
     assert!(rt; still == 768 && matches!(refused, Answer::Full));
     let (joined, _) = enter(&mut cells, count, Command::Put(767, Papers::new(2)))?;
-    match joined {
-        Answer::Joined(held) => {
-            assert!(rt; held.bits() == 3);
-            Ok(())
-        },
-        _ => Err(Fail::new("not joined")),
-    }
+    let Answer::Joined(held) = joined else {
+        return Err(Fail::new("not joined"));
+    };
+    assert_eq!(rt; held.bits(), 3);
+    Ok(())
 }

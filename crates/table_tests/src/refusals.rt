@@ -43,12 +43,12 @@ fn lend(cells: usize, spare: usize, commands: usize, answers: usize) -> Result<u
 
 #[test]
 fn lengths(rt: HostRuntime) {
-    assert!(rt; matches!(lend(1024, 1024, 64, 64), Ok(0)));
-    assert!(rt; matches!(lend(1023, 1024, 1, 1), Err(SheetFault::Lent)));
-    assert!(rt; matches!(lend(1025, 1024, 1, 1), Err(SheetFault::Lent)));
-    assert!(rt; matches!(lend(1024, 1023, 1, 1), Err(SheetFault::Lent)));
-    assert!(rt; matches!(lend(1024, 1024, 65, 65), Err(SheetFault::Lent)));
-    assert!(rt; matches!(lend(1024, 1024, 64, 63), Err(SheetFault::Lent)));
+    assert_eq!(rt; lend(1024, 1024, 64, 64), Ok(0));
+    assert_eq!(rt; lend(1023, 1024, 1, 1), Err(SheetFault::Lent));
+    assert_eq!(rt; lend(1025, 1024, 1, 1), Err(SheetFault::Lent));
+    assert_eq!(rt; lend(1024, 1023, 1, 1), Err(SheetFault::Lent));
+    assert_eq!(rt; lend(1024, 1024, 65, 65), Err(SheetFault::Lent));
+    assert_eq!(rt; lend(1024, 1024, 64, 63), Err(SheetFault::Lent));
 }
 
 #[test]
@@ -57,47 +57,37 @@ fn cells_that_are_no_layout(rt: HostRuntime) {
     let mut spare = [None; 1024];
     let sheet = [Command::Get(1)];
     let mut answers = [Answer::Absent];
-    assert!(rt;
-        matches!(
-            run(&mut cells, &mut spare, &sheet, &mut answers, 1, 8),
-            Err(SheetFault::Cells)
-        )
+    assert_eq!(rt;
+        run(&mut cells, &mut spare, &sheet, &mut answers, 1, 8),
+        Err(SheetFault::Cells)
     );
-    assert!(rt;
-        matches!(
-            run(&mut cells, &mut spare, &sheet, &mut answers, 0, 16),
-            Err(SheetFault::Cells)
-        )
+    assert_eq!(rt;
+        run(&mut cells, &mut spare, &sheet, &mut answers, 0, 16),
+        Err(SheetFault::Cells)
     );
     cells[3] = Some(Record {
         key: 1,
         value: Papers::new(1),
     });
-    assert!(rt;
-        matches!(
-            run(&mut cells, &mut spare, &sheet, &mut answers, 1, 8),
-            Err(SheetFault::Cells)
-        )
+    assert_eq!(rt;
+        run(&mut cells, &mut spare, &sheet, &mut answers, 1, 8),
+        Err(SheetFault::Cells)
     );
     cells[3] = None;
     cells[4] = Some(Record {
         key: 1,
         value: Papers::new(1),
     });
-    assert!(rt;
-        matches!(
-            run(&mut cells, &mut spare, &sheet, &mut answers, 1, 8),
-            Ok(1)
-        )
+    assert_eq!(rt;
+        run(&mut cells, &mut spare, &sheet, &mut answers, 1, 8),
+        Ok(1)
     );
     cells[9] = Some(Record {
         key: 1,
         value: Papers::new(1),
     });
-    assert!(rt;
-        matches!(
-            run(&mut cells, &mut spare, &sheet, &mut answers, 1, 8),
-            Err(SheetFault::Cells)
-        )
+    assert_eq!(rt;
+        run(&mut cells, &mut spare, &sheet, &mut answers, 1, 8),
+        Err(SheetFault::Cells)
     );
 }
