@@ -26,7 +26,6 @@ use Rattle.register.specs.declared.batch.Open.{Open}
 use Rattle.register.specs.declared.fault.RegisterFault.{RegisterFault}
 
 same_keys : {K Row V : Type 0} (x : Kinds K Row V) (sheet : List (Command Row V)) → all_rows_keyed x sheet ≡ all_keys x sheet
-unfolding all_rows_keyed
 same_keys x [] = refl
 same_keys x (c ∷ cs) = ap (λ t. is_some (x.key.key (row_of c)) && t) (same_keys x cs)
 
