@@ -6,7 +6,7 @@ ghost use Rattle.maps.specs.Maps.{kinds_of};
 ghost use Rattle.table.specs.Rows.{Finds, held_by};
 ghost use Rattle.table.specs.Runs.{Stores, Turns, Does};
 
-use crate::resize::{Scratch, resize};
+use crate::resize::{Scratch, fit};
 use crate::stored::Stored;
 use crate::walks::{insert, remove};
 use cells::ring::capacity_of;
@@ -76,7 +76,7 @@ impl<'a, K: Key, V: Value> Table<'a, K, V> {
             value,
         };
         let cells = &mut *self.cells;
-        resize::<K, V>(cells, scratch.cells, self.seed, size, wanted);
+        fit::<K, V>(cells, scratch.cells, self.seed, size, wanted);
         insert::<K, V>(&mut cells[..wanted], self.seed, new);
         self.count += 1;
     }
@@ -101,7 +101,7 @@ impl<'a, K: Key, V: Value> Table<'a, K, V> {
         let wanted = capacity_of(self.count - 1);
         let cells = &mut *self.cells;
         remove::<K, V>(&mut cells[..size], self.seed, place, old);
-        resize::<K, V>(cells, scratch.cells, self.seed, size, wanted);
+        fit::<K, V>(cells, scratch.cells, self.seed, size, wanted);
         self.count -= 1;
     }
 

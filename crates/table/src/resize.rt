@@ -28,9 +28,32 @@ impl<'a, R: Copy> Scratch<'a, R> {
     }
 }
 
-// Lays the records of the first `size` cells out anew in the first `wanted` ones, if these are others, through as many
-// empty cells of scratch. Its callers show that scratch is empty, and it is left so.
+// Lays the records of the first `size` cells out anew in the first `wanted` ones, through as many empty cells of scratch.
+// Its callers show that scratch is empty, and it is left so.
 pub fn resize<K: Key, V: Value>(
+    cells: &mut [Option<Record<K::Row, V>>],
+    scratch: &mut [Option<Record<K::Row, V>>],
+    seed: u32,
+    size: usize,
+    wanted: usize,
+)
+    requires alike { length scratch.old ≡ length cells.old }
+    requires empty { scratch.old ≡ replicate (length scratch.old) None }
+    requires within { size ≤ length cells.old }
+    requires fits { wanted ≤ length cells.old }
+    requires few { wanted ≤ 1024 }
+    requires sound { Cells (kinds_of K.Key.kind V.Value.kind) seed (take size cells.old) }
+    requires room { filled (take size cells.old) < wanted }
+    ensures laid { cells.new ≡ layout (row_rule (kinds_of K.Key.kind V.Value.kind) seed wanted) (records_of (row_order (kinds_of K.Key.kind V.Value.kind)) (take size cells.old)) ++ replicate (length cells.old - wanted) None }
+    ensures scratch { scratch.new ≡ scratch.old }
+{
+    gather::<K, V>(&cells[..size], &mut scratch[..wanted], seed);
+    cells.copy_from_slice(scratch);
+    scratch.fill(None);
+}
+
+// The same where another number of cells is wanted; else nothing.
+pub(crate) fn fit<K: Key, V: Value>(
     cells: &mut [Option<Record<K::Row, V>>],
     scratch: &mut [Option<Record<K::Row, V>>],
     seed: u32,
@@ -48,10 +71,7 @@ pub fn resize<K: Key, V: Value>(
     ensures laid { wanted ≢ size → cells.new ≡ layout (row_rule (kinds_of K.Key.kind V.Value.kind) seed wanted) (records_of (row_order (kinds_of K.Key.kind V.Value.kind)) (take size cells.old)) ++ replicate (length cells.old - wanted) None }
     ensures scratch { scratch.new ≡ scratch.old }
 {
-    if wanted == size {
-        return;
+    if wanted != size {
+        resize::<K, V>(cells, scratch, seed, size, wanted);
     }
-    gather::<K, V>(&cells[..size], &mut scratch[..wanted], seed);
-    cells.copy_from_slice(scratch);
-    scratch.fill(None);
 }

@@ -10,7 +10,7 @@ pub gather-requires-clause-empty : goal.gather-requires-clause-empty
 gather-requires-clause-empty g c = empty_front c.args.scratch.now c.args.wanted c.requires.empty (search rules)
 
 pub returns-clause-laid : goal.returns-clause-laid
-returns-clause-laid g c differs =
+returns-clause-laid g c =
     let x = kinds_of g.K.Key.kind g.V.Value.kind in
     let rest = empty_rest c.args.scratch.now (length c.args.cells.now) c.args.wanted c.requires.empty c.requires.alike in
     let long = length-take-le c.args.wanted c.args.scratch.now (search rules) in

@@ -12,8 +12,8 @@ use Rattle.table.proofs.commands.Table.add.Goals as goal
 wider : (count wanted n : ℕ) → count < 768 → wanted ≡ capacity (count + 1) → count ≡ n → (n < wanted) × (wanted ≤ 1024)
 wider count wanted n few e q = (omega (arith, capacity_room (count + 1) (omega arith)), omega (arith, (capacity_range (count + 1)).1))
 
-pub resize-requires : goal.resize-requires
-resize-requires g c =
+pub fit-requires : goal.fit-requires
+fit-requires g c =
     let x = kinds_of g.K.Key.kind g.V.Value.kind in
     let s = c.args.self.now in
     let (m, h, n) = held x g.met.K.Key.lawful s.seed s.count s.cells.now s.stored in
@@ -35,7 +35,7 @@ slice_bounds-insert-end g c =
     let s = c.args.self.now in
     let (m, h, n) = held x g.met.K.Key.lawful s.seed s.count s.cells.now s.stored in
     let w = wider s.count c.capacity_of-wanted.result (length m) c.requires.few c.capacity_of-wanted.ensures n in
-    let o = ready x g.met.K.Key.lawful s.seed s.count m s.cells.now h n c.args.key c.capacity_of-size.result c.capacity_of-wanted.result c.capacity_of-size.ensures w.0 w.1 c.resize.new.cells c.resize.ensures.kept c.resize.ensures.laid in
+    let o = ready x g.met.K.Key.lawful s.seed s.count m s.cells.now h n c.args.key c.capacity_of-size.result c.capacity_of-wanted.result c.capacity_of-size.ensures w.0 w.1 c.fit.new.cells c.fit.ensures.kept c.fit.ensures.laid in
     omega (arith, o.size, o.most)
 
 pub slice_bounds-insert-end-2 : goal.slice_bounds-insert-end-2
@@ -44,7 +44,7 @@ slice_bounds-insert-end-2 g c =
     let s = c.args.self.now in
     let (m, h, n) = held x g.met.K.Key.lawful s.seed s.count s.cells.now s.stored in
     let w = wider s.count c.capacity_of-wanted.result (length m) c.requires.few c.capacity_of-wanted.ensures n in
-    let o = ready x g.met.K.Key.lawful s.seed s.count m s.cells.now h n c.args.key c.capacity_of-size.result c.capacity_of-wanted.result c.capacity_of-size.ensures w.0 w.1 c.resize.new.cells c.resize.ensures.kept c.resize.ensures.laid in
+    let o = ready x g.met.K.Key.lawful s.seed s.count m s.cells.now h n c.args.key c.capacity_of-size.result c.capacity_of-wanted.result c.capacity_of-size.ensures w.0 w.1 c.fit.new.cells c.fit.ensures.kept c.fit.ensures.laid in
     sym o.long
 
 pub insert-requires : goal.insert-requires
@@ -53,11 +53,11 @@ insert-requires g c =
     let s = c.args.self.now in
     let (m, h, n) = held x g.met.K.Key.lawful s.seed s.count s.cells.now s.stored in
     let w = wider s.count c.capacity_of-wanted.result (length m) c.requires.few c.capacity_of-wanted.ensures n in
-    let o = ready x g.met.K.Key.lawful s.seed s.count m s.cells.now h n c.args.key c.capacity_of-size.result c.capacity_of-wanted.result c.capacity_of-size.ensures w.0 w.1 c.resize.new.cells c.resize.ensures.kept c.resize.ensures.laid in
+    let o = ready x g.met.K.Key.lawful s.seed s.count m s.cells.now h n c.args.key c.capacity_of-size.result c.capacity_of-wanted.result c.capacity_of-size.ensures w.0 w.1 c.fit.new.cells c.fit.ensures.kept c.fit.ensures.laid in
     record {
       few = omega (arith, o.long, o.most);
       sound = o.sound;
-      absent = still_gone x g.met.K.Key.lawful s.seed s.count m s.cells.now h n c.args.key (capacity s.count) refl c.requires.absent c.capacity_of-wanted.result c.resize.new.cells o c.to_row.result c.to_row.ensures;
+      absent = still_gone x g.met.K.Key.lawful s.seed s.count m s.cells.now h n c.args.key (capacity s.count) refl c.requires.absent c.capacity_of-wanted.result c.fit.new.cells o c.to_row.result c.to_row.ensures;
     }
 
 pub invariant_of-self : goal.invariant_of-self
@@ -66,20 +66,20 @@ invariant_of-self g c =
     let s = c.args.self.now in
     let (m, h, n) = held x g.met.K.Key.lawful s.seed s.count s.cells.now s.stored in
     let w = wider s.count c.capacity_of-wanted.result (length m) c.requires.few c.capacity_of-wanted.ensures n in
-    let o = ready x g.met.K.Key.lawful s.seed s.count m s.cells.now h n c.args.key c.capacity_of-size.result c.capacity_of-wanted.result c.capacity_of-size.ensures w.0 w.1 c.resize.new.cells c.resize.ensures.kept c.resize.ensures.laid in
+    let o = ready x g.met.K.Key.lawful s.seed s.count m s.cells.now h n c.args.key c.capacity_of-size.result c.capacity_of-wanted.result c.capacity_of-size.ensures w.0 w.1 c.fit.new.cells c.fit.ensures.kept c.fit.ensures.laid in
     record {
       stored = ∣ (
         with_pair x c.args.key c.args.value m,
-        added x g.met.K.Key.lawful s.seed s.count m s.cells.now h n c.args.key (capacity s.count) refl c.capacity_of-wanted.result c.capacity_of-wanted.ensures c.requires.few c.requires.absent c.resize.new.cells _ o c.args.value c.to_row.result c.to_row.ensures
-            (ap (λ d. d ++ drop c.capacity_of-wanted.result c.resize.new.cells) c.insert.ensures),
+        added x g.met.K.Key.lawful s.seed s.count m s.cells.now h n c.args.key (capacity s.count) refl c.capacity_of-wanted.result c.capacity_of-wanted.ensures c.requires.few c.requires.absent c.fit.new.cells _ o c.args.value c.to_row.result c.to_row.ensures
+            (ap (λ d. d ++ drop c.capacity_of-wanted.result c.fit.new.cells) c.insert.ensures),
         longer x g.met.K.Key.lawful s.seed s.count m s.cells.now h n c.args.key (capacity s.count) refl c.requires.absent c.args.value,
       ) ∣₁;
     }
 
 pub invariant_of-scratch : goal.invariant_of-scratch
 invariant_of-scratch g c = record {
-  spare = c.resize.auto.scratch ∙ c.args.scratch.now.spare;
-  empty = c.resize.ensures.scratch ∙ c.args.scratch.now.empty ∙ ap (λ (k : ℕ). replicate k None) (sym c.resize.auto.scratch);
+  spare = c.fit.auto.scratch ∙ c.args.scratch.now.spare;
+  empty = c.fit.ensures.scratch ∙ c.args.scratch.now.empty ∙ ap (λ (k : ℕ). replicate k None) (sym c.fit.auto.scratch);
 }
 
 pub returns-clause-cells : goal.returns-clause-cells
@@ -88,6 +88,6 @@ returns-clause-cells g c =
     let s = c.args.self.now in
     λ m h n.
     (let w = wider s.count c.capacity_of-wanted.result (length m) c.requires.few c.capacity_of-wanted.ensures n in
-    let o = ready x g.met.K.Key.lawful s.seed s.count m s.cells.now h n c.args.key c.capacity_of-size.result c.capacity_of-wanted.result c.capacity_of-size.ensures w.0 w.1 c.resize.new.cells c.resize.ensures.kept c.resize.ensures.laid in
-    added x g.met.K.Key.lawful s.seed s.count m s.cells.now h n c.args.key (capacity s.count) refl c.capacity_of-wanted.result c.capacity_of-wanted.ensures c.requires.few c.requires.absent c.resize.new.cells _ o c.args.value c.to_row.result c.to_row.ensures
-    (ap (λ d. d ++ drop c.capacity_of-wanted.result c.resize.new.cells) c.insert.ensures))
+    let o = ready x g.met.K.Key.lawful s.seed s.count m s.cells.now h n c.args.key c.capacity_of-size.result c.capacity_of-wanted.result c.capacity_of-size.ensures w.0 w.1 c.fit.new.cells c.fit.ensures.kept c.fit.ensures.laid in
+    added x g.met.K.Key.lawful s.seed s.count m s.cells.now h n c.args.key (capacity s.count) refl c.capacity_of-wanted.result c.capacity_of-wanted.ensures c.requires.few c.requires.absent c.fit.new.cells _ o c.args.value c.to_row.result c.to_row.ensures
+    (ap (λ d. d ++ drop c.capacity_of-wanted.result c.fit.new.cells) c.insert.ensures))

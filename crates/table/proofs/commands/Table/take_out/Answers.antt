@@ -45,8 +45,8 @@ remove-requires g c =
     let f = subst (λ (k : ℕ). Finds x (take k s.cells.now) c.args.key (Some (c.args.place, c.args.old))) (sym c.capacity_of-size.ensures) c.requires in
     record { few = omega (arith, o.long, o.most); sound = o.sound; within = f.0; there = f.1 }
 
-pub resize-requires : goal.resize-requires
-resize-requires g c =
+pub fit-requires : goal.fit-requires
+fit-requires g c =
     let x = kinds_of g.K.Key.kind g.V.Value.kind in
     let s = c.args.self.now in
     let (m, h, n) = held x g.met.K.Key.lawful s.seed s.count s.cells.now s.stored in
@@ -80,16 +80,16 @@ invariant_of-self g c =
     record {
       stored = ∣ (
         without_key x c.args.key m,
-        taken x g.met.K.Key.lawful s.seed s.count m s.cells.now h n c.args.key c.capacity_of-size.result c.capacity_of-size.ensures c.capacity_of-wanted.result c.capacity_of-wanted.ensures r.0 c.resize.new.cells
-            (moved_or_kept x g.met.K.Key.lawful s.seed c.capacity_of-size.result (without_key x c.args.key m) _ r.1 c.capacity_of-wanted.result c.resize.new.cells r.2 c.resize.ensures.kept c.resize.ensures.laid),
+        taken x g.met.K.Key.lawful s.seed s.count m s.cells.now h n c.args.key c.capacity_of-size.result c.capacity_of-size.ensures c.capacity_of-wanted.result c.capacity_of-wanted.ensures r.0 c.fit.new.cells
+            (moved_or_kept x g.met.K.Key.lawful s.seed c.capacity_of-size.result (without_key x c.args.key m) _ r.1 c.capacity_of-wanted.result c.fit.new.cells r.2 c.fit.ensures.kept c.fit.ensures.laid),
         (drop_takes x g.met.K.Key.lawful s.seed s.count m s.cells.now h n c.args.key (capacity s.count) refl c.args.place c.args.old c.requires).2,
       ) ∣₁;
     }
 
 pub invariant_of-scratch : goal.invariant_of-scratch
 invariant_of-scratch g c = record {
-  spare = c.resize.auto.scratch ∙ c.args.scratch.now.spare;
-  empty = c.resize.ensures.scratch ∙ c.args.scratch.now.empty ∙ ap (λ (k : ℕ). replicate k None) (sym c.resize.auto.scratch);
+  spare = c.fit.auto.scratch ∙ c.args.scratch.now.spare;
+  empty = c.fit.ensures.scratch ∙ c.args.scratch.now.empty ∙ ap (λ (k : ℕ). replicate k None) (sym c.fit.auto.scratch);
 }
 
 pub returns-clause-cells : goal.returns-clause-cells
@@ -99,8 +99,8 @@ returns-clause-cells g c =
     let f = subst (λ (k : ℕ). Finds x (take k s.cells.now) c.args.key (Some (c.args.place, c.args.old))) (sym c.capacity_of-size.ensures) c.requires in
     λ m h n.
     (let r = removed x g.met.K.Key.lawful s.seed s.count m s.cells.now h n c.args.key c.capacity_of-size.result c.capacity_of-size.ensures _ (c.remove.new.cells ++ drop c.capacity_of-size.result s.cells.now) c.args.place c.args.old f f.3 (ap (λ d. d ++ drop c.capacity_of-size.result s.cells.now) c.remove.ensures) in
-    taken x g.met.K.Key.lawful s.seed s.count m s.cells.now h n c.args.key c.capacity_of-size.result c.capacity_of-size.ensures c.capacity_of-wanted.result c.capacity_of-wanted.ensures r.0 c.resize.new.cells
-    (moved_or_kept x g.met.K.Key.lawful s.seed c.capacity_of-size.result (without_key x c.args.key m) _ r.1 c.capacity_of-wanted.result c.resize.new.cells r.2 c.resize.ensures.kept c.resize.ensures.laid))
+    taken x g.met.K.Key.lawful s.seed s.count m s.cells.now h n c.args.key c.capacity_of-size.result c.capacity_of-size.ensures c.capacity_of-wanted.result c.capacity_of-wanted.ensures r.0 c.fit.new.cells
+    (moved_or_kept x g.met.K.Key.lawful s.seed c.capacity_of-size.result (without_key x c.args.key m) _ r.1 c.capacity_of-wanted.result c.fit.new.cells r.2 c.fit.ensures.kept c.fit.ensures.laid))
 
 pub returns-clause-count : goal.returns-clause-count
 returns-clause-count g c =
