@@ -18,6 +18,7 @@ fn load<S: Store>(store: &S, work: &mut [u8]) -> Result<(), ImageFault<S::Fault>
     ensures answer { tells S.Fault.BlockFault result ≡ load_answer (S.Store.shown store.now) }
     ensures bytes { Loaded (S.Store.shown store.now) (S.Store.count store.now) work.new result }
 {
+    // A store is asked for a block by its number, so the numbers are counted.
     for i in 0..store.count() {
         overwrite(work, 32 * i, &store.read(i)?);
     }

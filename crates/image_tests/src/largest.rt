@@ -26,6 +26,7 @@ fn home(i: u16) -> usize {
 // Which text each cell holds: each text in the first free cell from its home on, where cell 0 follows the last.
 fn owners() -> [Option<u16>; 1024] {
     let mut owner = [None; 1024];
+    // A text is known by its number.
     for i in 0u16..768 {
         let (before, after) = owner.split_at_mut(home(i) % 1024);
         if let Some(free) = after.iter_mut().chain(before).find(|cell| cell.is_none()) {

@@ -16,6 +16,7 @@ pub trait Key: Sized + Copy {
 
     ghost kind: { KeyKind Self Self.Row };
 
+    // By its number an image tells the kind: a rule of the project.
     fn kind_number() -> u8
         ensures { result ≡ kind.number };
 

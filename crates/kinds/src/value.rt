@@ -9,6 +9,7 @@ use crate::code::NoCode;
 pub trait Value: Sized + Copy {
     ghost kind: { ValueKind Self };
 
+    // By its number an image tells the kind: a rule of the project.
     fn kind_number() -> u8
         ensures { result ≡ kind.number };
 

@@ -13,6 +13,7 @@ pub enum Reply {
     Absent,
     Found(u16),
     Sealed(usize),
+    // By its number, which is what is printed: a rule of the project.
     Refused(u8),
     Bad,
 }

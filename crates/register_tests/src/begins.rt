@@ -1,14 +1,15 @@
 use kinds::record::Record;
 use numbers::papers::Papers;
 use numbers::staff::StaffNumber;
+use register::batch::Closed;
 use register::batch::ends::abandon;
 use register::batch::opens::begin;
-use register::batch::Closed;
 use store::checked::CheckedStore;
 use store::plain::PlainStore;
 use store::store::Store;
 
-// The image of 1 with papers 3 and 9 with papers 4, with one byte changed.
+// The image of 1 with papers 3 and 9 with papers 4, with one byte changed. The tests of images have it too: a crate for
+// these lines alone would be no plainer.
 fn image_but(place: usize, byte: u8) -> [u8; 64] {
     let mut bytes = [0; 64];
     bytes[0] = 1;

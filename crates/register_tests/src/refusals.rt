@@ -19,10 +19,7 @@ fn opening_refusal<S: Store>(
     cells: &mut [Option<Record<u32, Papers>>],
 ) -> (Closed<S>, Option<u8>) {
     match opening {
-        Ok((batch, token)) => (
-            abandon::<S, StaffNumber, Papers>(batch, token, cells),
-            None,
-        ),
+        Ok((batch, token)) => (abandon::<S, StaffNumber, Papers>(batch, token, cells), None),
         Err((closed, fault)) => (closed, Some(fault.number())),
     }
 }

@@ -4,11 +4,11 @@ use maps::{Answer, Command};
 use numbers::hours::Hours;
 use numbers::papers::Papers;
 use numbers::staff::StaffNumber;
+use register::batch::Closed;
 use register::batch::ends::abandon;
 use register::batch::enters::enter;
 use register::batch::opens::start;
 use register::batch::seals::seal;
-use register::batch::Closed;
 use store::plain::PlainStore;
 use store::store::Store;
 
@@ -26,13 +26,7 @@ fn under<S: Store, V: Value>(
     match start::<S, StaffNumber, Papers>(closed, 0, &mut cells) {
         Err((closed, _)) => (closed.into_store(), None),
         Ok((mut batch, token)) => {
-            let res = enter::<S, StaffNumber, V>(
-                &mut batch,
-                other,
-                scratch,
-                &sheet,
-                &mut answers,
-            );
+            let res = enter::<S, StaffNumber, V>(&mut batch, other, scratch, &sheet, &mut answers);
             let entered = res.err().map(|fault| fault.number());
             match seal::<S, StaffNumber, V>(batch, token, other, work) {
                 Ok(closed) => (closed.into_store(), Some([entered, None])),

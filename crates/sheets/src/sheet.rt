@@ -25,6 +25,7 @@ pub enum SheetFault {
     Cells,
 }
 
+// A refusal has a number and a place: a rule of the project.
 impl SheetFault {
     pub fn number(self) -> u8
         ensures { result ≡ fault_number self }

@@ -1,6 +1,7 @@
 // The walks over cells that are a layout. A caller shows that they are, and that one of them is empty.
 // A walk goes round from a cell to where what stands in one ends it, and writes on its way: an iterator could not lend the
-// cells meanwhile, and one for reading alone would be the loop again, in a type.
+// cells meanwhile, and one for reading alone would be the loop again, in a type. Each asks for itself that the cells are
+// sound, since it goes over the first of more cells, or over cells that are filled only now, of which no type tells it.
 ghost use Rattle.std.specs.Prelude.{◌≡◌, ◌<◌, ◌≤◌, length, replicate, Some, None};
 ghost use Rattle.layout.specs.Cells.{at as in_cell, filled, layout, records_of};
 ghost use Rattle.maps.specs.Maps.{kinds_of};

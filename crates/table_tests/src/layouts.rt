@@ -21,11 +21,7 @@ fn enter(
         &mut scratch,
         &sheet,
         &mut answers,
-        Shape {
-            seed: 0,
-            count,
-            capacity: capacity_of(count),
-        },
+        Shape::new(0, count),
     );
     let after = left.map_err(|_| Fail::new("refused"))?;
     Ok((answers[0], after))
@@ -102,6 +98,7 @@ fn the_seventh_key_grows_and_its_drop_shrinks(rt: HostRuntime) -> Result<(), Fai
 
 fn put_below(cells: &mut [Option<Record<u32, Papers>>], end: u32) -> Result<usize, Fail> {
     let mut count = 0;
+    // The keys themselves are counted.
     for key in 0..end {
         let (_, after) = enter(cells, count, Command::Put(key, Papers::new(1)))?;
         count = after;

@@ -10,6 +10,7 @@ pub enum TextFault {
     NotAllowed(usize),
 }
 
+// A refusal has a number and a place: a rule of the project.
 impl TextFault {
     pub fn number(self) -> u8
         ensures { result ≡ (told self).0 }

@@ -7,7 +7,8 @@ ghost use Rattle.text.specs.Words.{unpacked, packed};
 use crate::fnv::fnv1a;
 use std::cmp::Ordering;
 
-// The length, and 24 bytes in three words, of each word the highest byte first.
+// The length, and 24 bytes in three words, of each word the highest byte first: that they lie in words is a rule of the
+// project.
 #[derive(Clone, Copy, PartialEq, Eq, Debug)]
 pub struct TextRow {
     pub len: u8,

@@ -52,6 +52,7 @@ pub fn begin<S: Store, K: Key, V: Value>(
 ) -> Opening<S>
     ensures { Step (setup K.Key.kind V.Value.kind) (closed_world S.Store closed cells.old) (opening_event Call.begin (work_piece work.old) S.Fault.BlockFault S.Store result cells.new (work_piece work.new)) }
 {
+    // A match, since the closed register goes into either answer.
     match find_contents::<S, K, V>(&closed.store, cells, work) {
         Ok((seed, count)) => Ok(closed.open::<K, V>(seed, count)),
         Err(fault) => Err((closed, fault)),
