@@ -1,13 +1,12 @@
 -- the capacity that a count demands, and homes
-use Rattle.std.proofs.Common.{◌≡◌, ℕ, ◌+◌, ◌*◌, ◌^◌, ◌<◌, ◌≤◌, true, false, ◌⊎◌, Some, None, Option, sym, refl, ap, ◌∙◌, inl, inr, mul-le-mul_right, add-one, arith, lit<}
+use Rattle.std.proofs.Common.{◌≡◌, ℕ, ◌+◌, ◌*◌, ◌^◌, ◌<◌, ◌≤◌, true, false, Some, None, Option, sym, refl, ap, ◌∙◌, inl, inr, mul-le-mul_right, add-one, arith, lit<}
 use native.Mathlib.Nat.{pow-le-pow_right, pow-succ'}
 use Rattle.std.proofs.lemmas.Nat.{div_below, pow_pos}
-use Rattle.std.proofs.lemmas.Bool.{cases_eq, cases_lt, cases_Bool, leb-true, leb-false, le-leb}
+use Rattle.std.proofs.lemmas.Bool.{cases_lt, cases_Bool, leb-true, leb-false, le-leb}
 use Rattle.layout.specs.Orders.{Order, Ordered}
 use Rattle.layout.specs.Tests.{lowest}
 use Rattle.layout.specs.Capacity.{enough, or_else, power, capacity, Demanded, home_at}
 use Rattle.layout.specs.Cells.{Lawful, hashed}
-use Rattle.layout.specs.Walks.{Climb}
 use Rattle.layout.proofs.Tests.{lowest_all, all_lowest, lowest_some, some_lowest}
 
 pow_le : (p q : ℕ) → p ≤ q → 2 ^ p ≤ 2 ^ q
@@ -76,39 +75,6 @@ demanded_only count cap d =
 -- an empty cell is left
 pub capacity_room : (count : ℕ) → count ≤ 768 → count < capacity count
 capacity_room count l = omega (arith, (capacity_demanded count l).suffices, (capacity_range count).0)
-
--- the search of the capacity from 8 on
-pub climb_start : (count : ℕ) → Climb count 8
-climb_start count = record { inside = (3, omega arith, omega arith, refl); low = λ q a b. absurd (omega (arith, pow_le 3 q a, b)) }
-
-pub climb_on : (count cap : ℕ) → Climb count cap → cap < 1024 → 3 * cap < 4 * count → Climb count (2 * cap)
-climb_on count cap w small few =
-    let (p, a, b, e) = w.inside in
-    let lt : p < 10 = elim (cases_lt p 10) [ inl l ↦ l | inr g ↦ absurd (omega (arith, pow_le 10 p g, e)) ] in
-    record {
-      inside = (p + 1, omega arith, omega (arith, lt), rw e (sym (double p)));
-      low = λ q c d. elim (cases_lt q p) [
-        | inl l ↦ w.low q c (omega (arith, e, pow_lt q p l))
-        | inr g ↦ elim (cases_eq q p) [
-          | inl s ↦ (let z : 2 ^ q ≡ cap = ap (λ (x : ℕ). 2 ^ x) s ∙ sym e in omega (arith, z))
-          | inr n ↦ absurd (omega (arith, pow_le (p + 1) q (omega (arith, n, g)), double p, e, d))
-        ]
-      ];
-    }
-
-pub climb_end : (count cap : ℕ) → Climb count cap → (1024 ≤ cap) ⊎ (4 * count ≤ 3 * cap) → cap ≡ capacity count
-unfolding capacity
-climb_end count cap w stop =
-    let (p, a, b, e) = w.inside in
-    e ∙ ap (λ (x : ℕ). 2 ^ x) (sym (power_is count p a b
-    (λ q c l. elim (cases_Bool (enough count q)) [
-      | inl t ↦ absurd (omega (arith, w.low q c (omega (arith, e, pow_lt q p l)), leb-true (4 * count) (3 * 2 ^ q) t))
-      | inr f ↦ f
-    ])
-    (λ l. elim stop [
-      | inl big ↦ absurd (omega (arith, pow_lt p 10 l, e, big))
-      | inr s ↦ le-leb (4 * count) (3 * 2 ^ p) (omega (arith, e, s))
-    ])))
 
 -- the home of a hash below 2^32 is one of the cells
 pub home_below : (cap hash : ℕ) → 0 < cap → hash < 2 ^ 32 → home_at cap hash < cap

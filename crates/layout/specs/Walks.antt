@@ -1,6 +1,6 @@
 -- what the two walks over the cells keep, an insertion by carrying on and a removal by shifting back,
 -- and what re-laying the records into cells of another capacity keeps
-use Rattle.std.specs.Prelude.{◌≡◌, ℕ, ◌-◌, ◌*◌, ◌^◌, ◌<◌, ◌≤◌, true, ◌≢◌, ◌⊎◌, ◌↔◌, List, length, take, Some, None, Option}
+use Rattle.std.specs.Prelude.{◌≡◌, ℕ, ◌-◌, ◌<◌, ◌≤◌, true, ◌≢◌, ◌⊎◌, ◌↔◌, List, length, take, Some, None, Option}
 use Rattle.layout.specs.Cells.{Rule, at, distance, from_home, Held, filled}
 use Rattle.layout.specs.Places.{earlier, Reach, AllInPlace}
 
@@ -49,11 +49,6 @@ pub record Gathered {R Key : Type 0} (K : Rule R Key) (from : List (Option R)) (
   pub all : AllInPlace K into
   pub count : filled into ≡ filled (take i from)
   pub held : (s : R) → Held K into s ↔ ((p : ℕ) × (p < i) × (at from p ≡ Some s))
-
--- the search of the capacity for a count has come to cap: all smaller powers of two are too small
-pub record Climb (count cap : ℕ) : Type 0 where
-  pub inside : (p : ℕ) × (3 ≤ p) × (p ≤ 10) × (cap ≡ 2 ^ p)
-  pub low : (q : ℕ) → 3 ≤ q → 2 ^ q < cap → 3 * 2 ^ q < 4 * count
 
 -- how many cells lie ahead of a walk round from h that has come to cell i
 abbrev pub steps_left : ℕ → ℕ → ℕ → ℕ
