@@ -57,6 +57,16 @@ impl<K: Key, V: Value> Record<K, V> {
         Ok(end)
     }
 
+    // The record as lent memory holds it. No `From`: where a key is its own row, it would be a second one from a type to itself.
+    pub fn to_row(&self) -> Record<K::Row, V>
+        ensures { result ≡ record { key = K.Key.kind.row self.now.key; value = self.now.value } }
+    {
+        Record {
+            key: self.key.to_row(),
+            value: self.value,
+        }
+    }
+
     // The record whose code stands at the front of the bytes, with the length of that code.
     pub fn read(bytes: &[u8]) -> Result<(Record<K, V>, usize), NoCode>
         ensures answer { result ≡ read_answer (record_front K.Key.kind V.Value.kind bytes.now) }

@@ -18,7 +18,7 @@ use maps::{Answer, Command};
 // A map has at most so many records.
 pub const MOST_RECORDS: usize = 768;
 
-// Cells that hold a map of `count` records under a seed.
+// Cells that hold a map of `count` records under a seed, lent to be written.
 #[derive(Drop)]
 pub struct Table<'a, K: Key, V: Value> {
     cells: &'a mut [Option<Record<K::Row, V>>],
@@ -70,10 +70,7 @@ impl<'a, K: Key, V: Value> Table<'a, K, V> {
     {
         let size = capacity_of(self.count);
         let wanted = capacity_of(self.count + 1);
-        let new = Record {
-            key: key.to_row(),
-            value,
-        };
+        let new = Record { key, value }.to_row();
         let cells = &mut *self.cells;
         fit::<K, V>(cells, scratch.cells, self.seed, size, wanted);
         insert::<K, V>(&mut cells[..wanted], self.seed, new);
@@ -112,10 +109,7 @@ impl<'a, K: Key, V: Value> Table<'a, K, V> {
         match self.find(key) {
             Some((place, old)) => {
                 let both = old.value.join(value);
-                self.cells[place] = Some(Record {
-                    key: key.to_row(),
-                    value: both,
-                });
+                self.cells[place] = Some(Record { key, value: both }.to_row());
                 Answer::Joined(both)
             }
             None => {

@@ -52,7 +52,8 @@ pub fn resize<K: Key, V: Value>(
     scratch.fill(None);
 }
 
-// The same where another number of cells is wanted; else nothing.
+// The same where another number of cells is wanted; else nothing. It asks what `resize` asks, in clauses of its own:
+// a definition of them would have to be given cells, scratch, seed and both sizes, and each proof would take it apart again.
 pub(crate) fn fit<K: Key, V: Value>(
     cells: &mut [Option<Record<K::Row, V>>],
     scratch: &mut [Option<Record<K::Row, V>>],
