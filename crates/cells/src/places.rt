@@ -43,11 +43,8 @@ fn is_out_of_place<K: Key, V: Value>(
     requires within { i < length cells.now }
     ensures { result ≡ out_of_place (row_rule (kinds_of K.Key.kind V.Value.kind) seed (length cells.now)) cells.now i }
 {
-    let cell = cells[i];
-    match cell {
-        None => false,
-        Some(record) => is_barred::<K, V>(cells, seed, K::from_row(record.key), i),
-    }
+    let key = cells[i].map(|record| K::from_row(record.key));
+    key.is_some_and(|key| is_barred::<K, V>(cells, seed, key, i))
 }
 
 // The lowest cell that is not in place. Where each row is a key's, it is the lowest out of place among the keys, too:

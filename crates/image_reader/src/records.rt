@@ -2,23 +2,13 @@
 ghost use Rattle.std.specs.Prelude.{◌≡◌, ◌+◌, ◌/◌, ◌<◌, ◌≤◌, length, drop, slice_set};
 ghost use Rattle.image.specs.Opened.{front_of, cells_in};
 ghost use Rattle.image_reader.specs.Parts.{record_or, place_of, Filled};
-ghost use Rattle.maps.specs.Maps.{kinds_of, lent};
+ghost use Rattle.maps.specs.Maps.{kinds_of};
 
 use crate::bits::is_marked;
 use image::fault::ImageFault;
 use kinds::key::Key;
 use kinds::record::Record;
 use kinds::value::Value;
-
-// A record as lent cells hold it.
-fn to_lent<K: Key, V: Value>(found: Record<K, V>) -> Record<K::Row, V>
-    ensures { result ≡ lent (kinds_of K.Key.kind V.Value.kind) found }
-{
-    Record {
-        key: found.key.to_row(),
-        value: found.value,
-    }
-}
 
 // The record whose code stands at `at`, with the length of that code; or the fault that none does.
 fn record_at<K: Key, V: Value, F>(
@@ -45,7 +35,7 @@ pub(crate) fn read_cells<K: Key, V: Value, F>(
         *cell = if is_marked(bytes, c) {
             let (found, n) = record_at::<K, V, F>(bytes, at)?;
             at += n;
-            Some(to_lent(found))
+            Some(found.to_row())
         } else {
             None
         };

@@ -28,6 +28,7 @@ pub trait Key: Sized + Copy {
         requires { i < length (kind.code self.now) }
         ensures { result ≡ slice_index (kind.code self.now) i };
 
+    // No bound `Ord`: it would ask more of whoever writes a kind.
     fn compare(&self, other: &Self) -> Ordering
         ensures { result ≡ kind.order self.now other.now };
 

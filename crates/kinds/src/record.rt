@@ -33,6 +33,16 @@ impl<K: Key, V: Value> Record<K, V> {
         }
     }
 
+    // Writes the code over bytes as many as it has.
+    fn fill(&self, out: &mut [u8])
+        requires { length out.old ≡ length (record_code K.Key.kind V.Value.kind self.now) }
+        ensures { out.new ≡ record_code K.Key.kind V.Value.kind self.now }
+    {
+        for (i, byte) in out.iter_mut().enumerate() {
+            *byte = self.code_at(i);
+        }
+    }
+
     // Writes the code into `out` from `at` on, and gives the place behind it. Where it does not fit, nothing is written.
     pub fn write(&self, out: &mut [u8], at: usize) -> Result<usize, NoRoom>
         ensures answer { result ≡ write_answer out.old at (record_code K.Key.kind V.Value.kind self.now) }
@@ -43,11 +53,18 @@ impl<K: Key, V: Value> Record<K, V> {
         if out.len() < end {
             return Err(NoRoom);
         }
-        // By index: of what is written through `iter_mut` a proof learns the length alone.
-        for i in 0..n {
-            out[at + i] = self.code_at(i);
-        }
+        self.fill(&mut out[at..end]);
         Ok(end)
+    }
+
+    // The record as lent memory holds it. No `From`: where a key is its own row, it would be a second one from a type to itself.
+    pub fn to_row(&self) -> Record<K::Row, V>
+        ensures { result ≡ record { key = K.Key.kind.row self.now.key; value = self.now.value } }
+    {
+        Record {
+            key: self.key.to_row(),
+            value: self.value,
+        }
     }
 
     // The record whose code stands at the front of the bytes, with the length of that code.

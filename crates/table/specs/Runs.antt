@@ -1,5 +1,6 @@
 -- What a command does on lent cells that hold a map.
 use Rattle.std.specs.Prelude.{◌≡◌, ℕ, List, length, Option}
+use Rattle.std.specs.Borrow.{MutBor}
 use Rattle.kinds.specs.declared.record.Record.{Record}
 use Rattle.maps.specs.Maps.{Kinds, Laid}
 use Rattle.maps.specs.declared.Answer.{Answer}
@@ -20,3 +21,7 @@ Does {K} {Row} {V} x seed count after answer cells cells' r =
 -- what is answered where nothing changes
 abbrev pub Tells : {K Row V : Type 0} → Kinds K Row V → ℕ → ℕ → (List (Record K V) → Answer V) → List (Option (Record Row V)) → Answer V → Type 0
 Tells {K} {Row} {V} x seed count answer cells r = (m : List (Record K V)) → Laid x seed m cells → count ≡ length m → r ≡ answer m
+
+-- a table stays on the same lent cells, under the same seed
+abbrev pub Stays : {A : Type 0} → ℕ → MutBor A → ℕ → MutBor A → Type 0
+Stays seed cells seed' cells' = (seed' ≡ seed) × (cells'.ghost_name ≡ cells.ghost_name)

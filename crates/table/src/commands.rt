@@ -4,7 +4,7 @@ ghost use Rattle.layout.specs.Capacity.{capacity};
 ghost use Rattle.maps.specs.Commands.{found, is_full, with_pair, without_key, put_answer, put_after, drop_answer, answer_to, map_after};
 ghost use Rattle.maps.specs.Maps.{kinds_of};
 ghost use Rattle.table.specs.Rows.{Finds, held_by};
-ghost use Rattle.table.specs.Runs.{Stores, Turns, Does};
+ghost use Rattle.table.specs.Runs.{Stores, Turns, Does, Stays};
 
 use crate::resize::{Scratch, fit};
 use crate::stored::Stored;
@@ -18,7 +18,7 @@ use maps::{Answer, Command};
 // A map has at most so many records.
 pub const MOST_RECORDS: usize = 768;
 
-// Cells that hold a map of `count` records under a seed.
+// Cells that hold a map of `count` records under a seed, lent to be written.
 #[derive(Drop)]
 pub struct Table<'a, K: Key, V: Value> {
     cells: &'a mut [Option<Record<K::Row, V>>],
@@ -65,16 +65,12 @@ impl<'a, K: Key, V: Value> Table<'a, K, V> {
         requires absent { held_by (kinds_of K.Key.kind V.Value.kind) (Some key) (take (capacity self.old.count) self.old.cells.now) ≡ None }
         ensures cells { Turns (kinds_of K.Key.kind V.Value.kind) self.old.seed self.old.count (λ m. with_pair (kinds_of K.Key.kind V.Value.kind) key value m) self.old.cells.now self.new.cells.now }
         ensures count { self.new.count ≡ self.old.count + 1 }
-        ensures seed { self.new.seed ≡ self.old.seed }
-        ensures cells_named { self.new.cells.ghost_name ≡ self.old.cells.ghost_name }
+        ensures stays { Stays self.old.seed self.old.cells self.new.seed self.new.cells }
         ensures scratch_named { scratch.new.cells.ghost_name ≡ scratch.old.cells.ghost_name }
     {
         let size = capacity_of(self.count);
         let wanted = capacity_of(self.count + 1);
-        let new = Record {
-            key: key.to_row(),
-            value,
-        };
+        let new = Record { key, value }.to_row();
         let cells = &mut *self.cells;
         fit::<K, V>(cells, scratch.cells, self.seed, size, wanted);
         insert::<K, V>(&mut cells[..wanted], self.seed, new);
@@ -93,8 +89,7 @@ impl<'a, K: Key, V: Value> Table<'a, K, V> {
         requires { Finds (kinds_of K.Key.kind V.Value.kind) (take (capacity self.old.count) self.old.cells.now) key (Some (place, old)) }
         ensures cells { Turns (kinds_of K.Key.kind V.Value.kind) self.old.seed self.old.count (λ m. without_key (kinds_of K.Key.kind V.Value.kind) key m) self.old.cells.now self.new.cells.now }
         ensures count { self.new.count + 1 ≡ self.old.count }
-        ensures seed { self.new.seed ≡ self.old.seed }
-        ensures cells_named { self.new.cells.ghost_name ≡ self.old.cells.ghost_name }
+        ensures stays { Stays self.old.seed self.old.cells self.new.seed self.new.cells }
         ensures scratch_named { scratch.new.cells.ghost_name ≡ scratch.old.cells.ghost_name }
     {
         let size = capacity_of(self.count);
@@ -108,17 +103,13 @@ impl<'a, K: Key, V: Value> Table<'a, K, V> {
     // Put: joined to the value that is there; else a new record, unless the map is full.
     fn put(&mut self, scratch: &mut Scratch<'_, Record<K::Row, V>>, key: K, value: V) -> Answer<V>
         ensures done { Does (kinds_of K.Key.kind V.Value.kind) self.old.seed self.old.count (λ m. put_after (found (kinds_of K.Key.kind V.Value.kind) key m) (is_full m) m (with_pair (kinds_of K.Key.kind V.Value.kind) key value m)) (λ m. put_answer (kinds_of K.Key.kind V.Value.kind) value (found (kinds_of K.Key.kind V.Value.kind) key m) (is_full m)) self.old.cells.now self.new.cells.now (result, self.new.count) }
-        ensures seed { self.new.seed ≡ self.old.seed }
-        ensures cells_named { self.new.cells.ghost_name ≡ self.old.cells.ghost_name }
+        ensures stays { Stays self.old.seed self.old.cells self.new.seed self.new.cells }
         ensures scratch_named { scratch.new.cells.ghost_name ≡ scratch.old.cells.ghost_name }
     {
         match self.find(key) {
             Some((place, old)) => {
                 let both = old.value.join(value);
-                self.cells[place] = Some(Record {
-                    key: key.to_row(),
-                    value: both,
-                });
+                self.cells[place] = Some(Record { key, value: both }.to_row());
                 Answer::Joined(both)
             }
             None => {
@@ -133,8 +124,7 @@ impl<'a, K: Key, V: Value> Table<'a, K, V> {
 
     fn drop_key(&mut self, scratch: &mut Scratch<'_, Record<K::Row, V>>, key: K) -> Answer<V>
         ensures done { Does (kinds_of K.Key.kind V.Value.kind) self.old.seed self.old.count (λ m. without_key (kinds_of K.Key.kind V.Value.kind) key m) (λ m. drop_answer (found (kinds_of K.Key.kind V.Value.kind) key m)) self.old.cells.now self.new.cells.now (result, self.new.count) }
-        ensures seed { self.new.seed ≡ self.old.seed }
-        ensures cells_named { self.new.cells.ghost_name ≡ self.old.cells.ghost_name }
+        ensures stays { Stays self.old.seed self.old.cells self.new.seed self.new.cells }
         ensures scratch_named { scratch.new.cells.ghost_name ≡ scratch.old.cells.ghost_name }
     {
         match self.find(key) {
@@ -153,8 +143,7 @@ impl<'a, K: Key, V: Value> Table<'a, K, V> {
         command: Command<K::Row, V>,
     ) -> Answer<V>
         ensures done { Does (kinds_of K.Key.kind V.Value.kind) self.old.seed self.old.count (λ m. map_after (kinds_of K.Key.kind V.Value.kind) command m) (λ m. answer_to (kinds_of K.Key.kind V.Value.kind) command m) self.old.cells.now self.new.cells.now (result, self.new.count) }
-        ensures seed { self.new.seed ≡ self.old.seed }
-        ensures cells_named { self.new.cells.ghost_name ≡ self.old.cells.ghost_name }
+        ensures stays { Stays self.old.seed self.old.cells self.new.seed self.new.cells }
         ensures scratch_named { scratch.new.cells.ghost_name ≡ scratch.old.cells.ghost_name }
     {
         let Some(key) = K::from_row(command.row()) else {

@@ -1,8 +1,9 @@
 // Growing and shrinking, through scratch.
-ghost use Rattle.std.specs.Prelude.{◌≡◌, ◌-◌, ◌<◌, ◌≤◌, ◌++◌, length, take, replicate, None, ◌≢◌};
-ghost use Rattle.layout.specs.Cells.{filled, layout, records_of};
+ghost use Rattle.std.specs.Prelude.{◌≡◌, ◌-◌, ◌++◌, length, take, replicate, None, ◌≢◌};
+ghost use Rattle.layout.specs.Cells.{layout, records_of};
 ghost use Rattle.maps.specs.Maps.{kinds_of};
-ghost use Rattle.cells.specs.Rows.{Cells, row_order, row_rule};
+ghost use Rattle.cells.specs.Rows.{row_order, row_rule};
+ghost use Rattle.table.specs.Rows.{Resizable};
 
 use crate::walks::gather;
 use kinds::key::Key;
@@ -37,13 +38,7 @@ pub fn resize<K: Key, V: Value>(
     size: usize,
     wanted: usize,
 )
-    requires alike { length scratch.old ≡ length cells.old }
-    requires empty { scratch.old ≡ replicate (length scratch.old) None }
-    requires within { size ≤ length cells.old }
-    requires fits { wanted ≤ length cells.old }
-    requires few { wanted ≤ 1024 }
-    requires sound { Cells (kinds_of K.Key.kind V.Value.kind) seed (take size cells.old) }
-    requires room { filled (take size cells.old) < wanted }
+    requires { Resizable (kinds_of K.Key.kind V.Value.kind) seed cells.old scratch.old size wanted }
     ensures laid { cells.new ≡ layout (row_rule (kinds_of K.Key.kind V.Value.kind) seed wanted) (records_of (row_order (kinds_of K.Key.kind V.Value.kind)) (take size cells.old)) ++ replicate (length cells.old - wanted) None }
     ensures scratch { scratch.new ≡ scratch.old }
 {
@@ -60,13 +55,7 @@ pub(crate) fn fit<K: Key, V: Value>(
     size: usize,
     wanted: usize,
 )
-    requires alike { length scratch.old ≡ length cells.old }
-    requires empty { scratch.old ≡ replicate (length scratch.old) None }
-    requires within { size ≤ length cells.old }
-    requires fits { wanted ≤ length cells.old }
-    requires few { wanted ≤ 1024 }
-    requires sound { Cells (kinds_of K.Key.kind V.Value.kind) seed (take size cells.old) }
-    requires room { filled (take size cells.old) < wanted }
+    requires { Resizable (kinds_of K.Key.kind V.Value.kind) seed cells.old scratch.old size wanted }
     ensures kept { wanted ≡ size → cells.new ≡ cells.old }
     ensures laid { wanted ≢ size → cells.new ≡ layout (row_rule (kinds_of K.Key.kind V.Value.kind) seed wanted) (records_of (row_order (kinds_of K.Key.kind V.Value.kind)) (take size cells.old)) ++ replicate (length cells.old - wanted) None }
     ensures scratch { scratch.new ≡ scratch.old }

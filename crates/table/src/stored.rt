@@ -13,7 +13,8 @@ use kinds::record::Record;
 use kinds::value::Value;
 use maps::Answer;
 
-// Cells that hold a map of `count` records under a seed.
+// Cells that hold a map of `count` records under a seed, lent to be read; to a `Table` they are lent to be written.
+// `Table::stored` lends one's cells on to be read.
 #[derive(Drop)]
 pub struct Stored<'a, K: Key, V: Value> {
     cells: &'a [Option<Record<K::Row, V>>],

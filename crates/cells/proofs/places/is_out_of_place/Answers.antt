@@ -1,19 +1,26 @@
-use Rattle.std.proofs.Common.{length, Some, None, sym, ◌∙◌}
-use Rattle.layout.specs.Places.{barred}
+use Rattle.std.proofs.Common.{◌≡◌, Bool, false, List, Option, Some, None, length, ℕ, sym, ap, ◌∙◌, refl, arith, rules}
+use Rattle.std.specs.Option.{MatchOption, IsSomeAnd}
+use Rattle.layout.specs.Cells.{Rule, at}
+use Rattle.layout.specs.Places.{barred, out_of_place}
 use Rattle.layout.proofs.Places.{empty_cell, filled_cell}
 use Rattle.maps.specs.Maps.{kinds_of}
 use Rattle.cells.specs.Rows.{row_rule}
-use Rattle.cells.proofs.Rules.{read_at, told}
+use Rattle.cells.proofs.Rules.{read_at}
 use Rattle.cells.proofs.places.is_out_of_place.Goals as goal
 
-pub returns-in-None : goal.returns-in-None
-returns-in-None g c =
-    let R = row_rule (kinds_of g.K.Key.kind g.V.Value.kind) c.args.seed (length c.args.cells.now) in
-    sym (empty_cell R c.args.cells.now c.args.i (read_at c.args.cells.now c.args.i c.index-cells-i.result None c.requires.within c.index-cells-i.is c.in-None.is))
+-- a cell is out of place where its key, if it has one, is barred
+judged : {R Key : Type 0} (K : Rule R Key) (cells : List (Option R)) (i : ℕ) (P : R → Key → Type 0) (Q : Key → Type 0)
+    (o : Option R) (k : Option Key) (b : Bool) → at cells i ≡ o
+    → ((r : R) (y : Key) → P r y → y ≡ K.order.key r) → ((y : Key) → Q y → b ≡ barred K cells y i)
+    → MatchOption o (k ≡ None) (λ r. IsSomeAnd k (P r)) → MatchOption k (b ≡ false) Q → b ≡ out_of_place K cells i
+judged K cells i P Q None None b e p q m s = s ∙ sym (empty_cell K cells i e)
+judged K cells i P Q None (Some y) b e p q m s = absurd (let z : ◌≡◌ {A = ℕ} 0 1 = cc in omega arith)
+judged K cells i P Q (Some r) None b e p q m s = absurd m
+judged K cells i P Q (Some r) (Some y) b e p q m s = q y s ∙ ap (λ k. barred K cells k i) (p r y m) ∙ sym (filled_cell K cells i r e)
 
-pub returns-in-Some : goal.returns-in-Some
-returns-in-Some g c =
-    let x = kinds_of g.K.Key.kind g.V.Value.kind in
-    let R = row_rule x c.args.seed (length c.args.cells.now) in
-    sym (filled_cell R c.args.cells.now c.args.i c.in-Some.record (read_at c.args.cells.now c.args.i c.index-cells-i.result (Some c.in-Some.record) c.requires.within c.index-cells-i.is c.in-Some.is)
-    ∙ told (λ o. barred R c.args.cells.now o c.args.i) c.from_row.result (x.key.key c.in-Some.record.key) c.is_barred.result c.is_barred.ensures c.from_row.ensures)
+pub returns : goal.returns
+returns g c =
+    let R = row_rule (kinds_of g.K.Key.kind g.V.Value.kind) c.args.seed (length c.args.cells.now) in
+    judged R c.args.cells.now c.args.i _ _ c.index-cells-i.result c.map-key.result c.is_some_and.result
+    (read_at c.args.cells.now c.args.i c.index-cells-i.result c.index-cells-i.result c.requires.within c.index-cells-i.is refl)
+    (λ r y p. search rules) (λ y q. search rules) c.map-key.ensures.cases c.is_some_and.ensures

@@ -48,7 +48,7 @@ loop-c-preserved g c =
           let r = w.in_ok-found.found in
           let n = w.in_ok-found.n in
           let f = record_some at (front_of x (drop at bs)) (r, n) w.in_ok-found.ensures in
-          turned g.row.F.Denot x bs cap (32 + cap / 8) (i + 1) (ap (set cells i) (w.cell-is ∙ ap Some w.to_lent.ensures)) w.at-is
+          turned g.row.F.Denot x bs cap (32 + cap / 8) (i + 1) (ap (set cells i) (w.cell-is ∙ ap Some w.to_row.ensures)) w.at-is
           (full g.row.F.Denot x bs cap (32 + cap / 8) i cells at c.loop-c.invariant r n (omega arith) lc
           (read_within x laws bs at r n c.loop-c.invariant.0 f) (sym c.is_marked.ensures ∙ w.if-is_marked.true) f)
       | else-is_marked w ↦

@@ -17,8 +17,8 @@ loop-i-preserved g c =
     let (s, a, b, w) = c.loop-i.invariant in
     let command = c.index-sheet-i.result in
     let after = c.run.new.self in (
-      c.run.ensures.seed ∙ s,
-      c.run.ensures.cells_named ∙ a,
+      c.run.ensures.stays.0 ∙ s,
+      c.run.ensures.stays.1 ∙ a,
       c.run.ensures.scratch_named ∙ b,
       walk_on x t.seed t.count t.cells.now c.args.answers.now c.args.sheet.now c.loop-i.i c.loop-i.table.count c.loop-i.table.cells.now c.loop-i.answers w c.loop-i-test.true c.requires.room command c.index-sheet-i.is after.cells.now (c.run.result, after.count)
           (subst (λ (q : ℕ). Does x q c.loop-i.table.count (λ m. map_after x command m) (λ m. answer_to x command m) c.loop-i.table.cells.now after.cells.now (c.run.result, after.count)) s c.run.ensures.done)

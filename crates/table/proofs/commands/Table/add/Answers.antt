@@ -1,8 +1,9 @@
-use Rattle.std.proofs.Common.{◌≡◌, ℕ, ◌+◌, ◌<◌, ◌≤◌, ◌++◌, length, drop, replicate, None, sym, refl, ap, ◌∙◌, arith}
+use Rattle.std.proofs.Common.{◌≡◌, ℕ, ◌+◌, ◌<◌, ◌≤◌, ◌++◌, length, take, drop, replicate, None, sym, refl, ap, ◌∙◌, arith}
 use Rattle.layout.specs.Capacity.{capacity}
 use Rattle.layout.proofs.Capacities.{capacity_range, capacity_room}
 use Rattle.maps.specs.Commands.{with_pair}
 use Rattle.maps.specs.Maps.{kinds_of}
+use Rattle.table.specs.Rows.{cells_with}
 use Rattle.table.proofs.Held.{held}
 use Rattle.table.proofs.Maps.{opened}
 use Rattle.table.proofs.Edits.{ready, still_gone, added, longer}
@@ -57,7 +58,7 @@ insert-requires g c =
     record {
       few = omega (arith, o.long, o.most);
       sound = o.sound;
-      absent = still_gone x g.met.K.Key.lawful s.seed s.count m s.cells.now h n c.args.key (capacity s.count) refl c.requires.absent c.capacity_of-wanted.result c.fit.new.cells o c.to_row.result c.to_row.ensures;
+      absent = still_gone x g.met.K.Key.lawful s.seed s.count m s.cells.now h n c.args.key (capacity s.count) refl c.requires.absent c.capacity_of-wanted.result c.fit.new.cells o c.to_row-new.result.key (ap (λ r. r.key) c.to_row-new.ensures);
     }
 
 pub invariant_of-self : goal.invariant_of-self
@@ -70,8 +71,8 @@ invariant_of-self g c =
     record {
       stored = ∣ (
         with_pair x c.args.key c.args.value m,
-        added x g.met.K.Key.lawful s.seed s.count m s.cells.now h n c.args.key (capacity s.count) refl c.capacity_of-wanted.result c.capacity_of-wanted.ensures c.requires.few c.requires.absent c.fit.new.cells _ o c.args.value c.to_row.result c.to_row.ensures
-            (ap (λ d. d ++ drop c.capacity_of-wanted.result c.fit.new.cells) c.insert.ensures),
+        added x g.met.K.Key.lawful s.seed s.count m s.cells.now h n c.args.key (capacity s.count) refl c.capacity_of-wanted.result c.capacity_of-wanted.ensures c.requires.few c.requires.absent c.fit.new.cells _ o c.args.value (x.key.row c.args.key) refl
+            (ap (λ d. d ++ drop c.capacity_of-wanted.result c.fit.new.cells) (c.insert.ensures ∙ ap (λ r. cells_with x s.seed r (take c.capacity_of-wanted.result c.fit.new.cells)) c.to_row-new.ensures)),
         longer x g.met.K.Key.lawful s.seed s.count m s.cells.now h n c.args.key (capacity s.count) refl c.requires.absent c.args.value,
       ) ∣₁;
     }
@@ -89,5 +90,5 @@ returns-clause-cells g c =
     λ m h n.
     (let w = wider s.count c.capacity_of-wanted.result (length m) c.requires.few c.capacity_of-wanted.ensures n in
     let o = ready x g.met.K.Key.lawful s.seed s.count m s.cells.now h n c.args.key c.capacity_of-size.result c.capacity_of-wanted.result c.capacity_of-size.ensures w.0 w.1 c.fit.new.cells c.fit.ensures.kept c.fit.ensures.laid in
-    added x g.met.K.Key.lawful s.seed s.count m s.cells.now h n c.args.key (capacity s.count) refl c.capacity_of-wanted.result c.capacity_of-wanted.ensures c.requires.few c.requires.absent c.fit.new.cells _ o c.args.value c.to_row.result c.to_row.ensures
-    (ap (λ d. d ++ drop c.capacity_of-wanted.result c.fit.new.cells) c.insert.ensures))
+    added x g.met.K.Key.lawful s.seed s.count m s.cells.now h n c.args.key (capacity s.count) refl c.capacity_of-wanted.result c.capacity_of-wanted.ensures c.requires.few c.requires.absent c.fit.new.cells _ o c.args.value (x.key.row c.args.key) refl
+    (ap (λ d. d ++ drop c.capacity_of-wanted.result c.fit.new.cells) (c.insert.ensures ∙ ap (λ r. cells_with x s.seed r (take c.capacity_of-wanted.result c.fit.new.cells)) c.to_row-new.ensures)))

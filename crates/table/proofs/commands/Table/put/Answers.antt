@@ -1,4 +1,4 @@
-use Rattle.std.proofs.Common.{refl, ◌∙◌}
+use Rattle.std.proofs.Common.{Some, set, refl, ap, ◌∙◌}
 use Rattle.layout.specs.Capacity.{capacity}
 use Rattle.maps.specs.Maps.{kinds_of}
 use Rattle.table.proofs.Held.{held}
@@ -10,14 +10,14 @@ invariant_of-self g c =
     let x = kinds_of g.K.Key.kind g.V.Value.kind in
     let s = c.args.self.now in
     let (m, h, n) = held x g.met.K.Key.lawful s.seed s.count s.cells.now s.stored in
-    let p = put_joins x g.met.K.Key.lawful s.seed s.count m s.cells.now h n c.args.key (capacity s.count) refl c.args.value c.in-Some.place c.in-Some.old c.to_row.result c.join-both.result c.in-Some.ensures c.to_row.ensures c.join-both.ensures _ refl in
+    let p = put_joins x g.met.K.Key.lawful s.seed s.count m s.cells.now h n c.args.key (capacity s.count) refl c.args.value c.in-Some.place c.in-Some.old (x.key.row c.args.key) c.join-both.result c.in-Some.ensures refl c.join-both.ensures _ (ap (λ r. set s.cells.now c.in-Some.place (Some r)) c.to_row.ensures) in
     record { stored = ∣ (_, p.0, p.2) ∣₁ }
 
 pub returns-in-Some-clause-done : goal.returns-in-Some-clause-done
 returns-in-Some-clause-done g c =
     let x = kinds_of g.K.Key.kind g.V.Value.kind in
     let s = c.args.self.now in
-    λ m h n. put_joins x g.met.K.Key.lawful s.seed s.count m s.cells.now h n c.args.key (capacity s.count) refl c.args.value c.in-Some.place c.in-Some.old c.to_row.result c.join-both.result c.in-Some.ensures c.to_row.ensures c.join-both.ensures _ refl
+    λ m h n. put_joins x g.met.K.Key.lawful s.seed s.count m s.cells.now h n c.args.key (capacity s.count) refl c.args.value c.in-Some.place c.in-Some.old (x.key.row c.args.key) c.join-both.result c.in-Some.ensures refl c.join-both.ensures _ (ap (λ r. set s.cells.now c.in-Some.place (Some r)) c.to_row.ensures)
 
 pub returns-then-self-ge-MOST_RECORDS-clause-done : goal.returns-then-self-ge-MOST_RECORDS-clause-done
 returns-then-self-ge-MOST_RECORDS-clause-done g c =
