@@ -12,7 +12,7 @@ use kinds::value::Value;
 use maps::Answer;
 use table::stored::Stored;
 
-// Values are equal exactly when their codes are.
+// Values are equal exactly when their codes are. Not `PartialEq`: its bound would ask more of whoever writes a kind.
 fn same_value<V: Value>(left: &V, right: &V) -> bool
     ensures { Decides result (left.now ≡ right.now) }
 {
@@ -57,6 +57,7 @@ fn has_all<K: Key, V: Value>(table: &Stored<'_, K, V>, rows: &[Option<Record<K::
 }
 
 // Whether two tables, each of 1024 cells under its own seed, hold one map. Callers show that they hold maps of so many records.
+// Not two `Stored`: the first's cells may lie under any seed, which a `Stored` would ask callers for.
 pub fn same_map<K: Key, V: Value>(
     cells: &[Option<Record<K::Row, V>>],
     count: usize,
