@@ -9,6 +9,7 @@ use kinds::key::Key;
 use kinds::record::Record;
 use kinds::value::Value;
 use store::store::Store;
+use table::stored::Stored;
 
 // Whether both stores show images of one map, under whatever seeds. The first is audited, then the second, each with cells of its own; the
 // first that is refused ends it.
@@ -30,7 +31,8 @@ pub fn audit_two<S: Store, T: Store, K: Key, V: Value>(
     };
     match examine::<T, K, V>(second, second_cells, work) {
         Ok((other_count, other_seed)) => {
-            let same = same_map::<K, V>(first_cells, count, second_cells, other_seed, other_count);
+            let other = Stored::<K, V>::new(second_cells, other_seed, other_count);
+            let same = same_map(first_cells, count, &other);
             first_cells.fill(None);
             second_cells.fill(None);
             Ok(same)

@@ -4,7 +4,6 @@
 ghost use Rattle.compare.specs.Compare.{StoresBySome, Has, HasAll, Compares};
 ghost use Rattle.maps.specs.Maps.{kinds_of};
 ghost use Rattle.std.specs.Prelude.{◌≡◌, Decides};
-ghost use Rattle.table.specs.Runs.{Stores};
 
 use kinds::key::Key;
 use kinds::record::Record;
@@ -12,7 +11,7 @@ use kinds::value::Value;
 use maps::Answer;
 use table::stored::Stored;
 
-// Values are equal exactly when their codes are.
+// Values are equal exactly when their codes are. Not `PartialEq`: its bound would ask more of whoever writes a kind.
 fn same_value<V: Value>(left: &V, right: &V) -> bool
     ensures { Decides result (left.now ≡ right.now) }
 {
@@ -56,18 +55,16 @@ fn has_all<K: Key, V: Value>(table: &Stored<'_, K, V>, rows: &[Option<Record<K::
     true
 }
 
-// Whether two tables, each of 1024 cells under its own seed, hold one map. Callers show that they hold maps of so many records.
+// Whether the cells and the table hold one map. Callers show that the cells hold one of so many records, under any seed: a
+// second `Stored` would ask for that seed too.
 pub fn same_map<K: Key, V: Value>(
     cells: &[Option<Record<K::Row, V>>],
     count: usize,
-    other: &[Option<Record<K::Row, V>>],
-    other_seed: u32,
-    other_count: usize,
+    other: &Stored<'_, K, V>,
 ) -> bool
-    requires held { StoresBySome (kinds_of K.Key.kind V.Value.kind) count cells.now }
-    requires other_held { Stores (kinds_of K.Key.kind V.Value.kind) other_seed other_count other.now }
-    ensures { Compares (kinds_of K.Key.kind V.Value.kind) cells.now other.now result }
+    requires { StoresBySome (kinds_of K.Key.kind V.Value.kind) count cells.now }
+    ensures { Compares (kinds_of K.Key.kind V.Value.kind) cells.now other.now.cells.now result }
 {
     // With as many records, a table that has all of these has no others.
-    count == other_count && has_all(&Stored::<K, V>::new(other, other_seed, other_count), cells)
+    count == other.count() && has_all(other, cells)
 }

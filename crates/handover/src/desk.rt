@@ -1,5 +1,7 @@
 // What the program lends to the register's calls, and what it prints for their answers.
+ghost use Rattle.contents.specs.Faults.{told};
 ghost use Rattle.handover.specs.Replies.{line_of, reply_of};
+ghost use Rattle.lines.specs.declared.output.Reply.TheVariants.{Refused};
 ghost use Rattle.std.specs.Prelude.{◌≡◌};
 
 use kinds::record::Record;
@@ -45,6 +47,12 @@ pub fn reply_of(answer: Answer<Papers>) -> Reply
         Answer::Absent => Reply::Absent,
         Answer::Found(held) => Reply::Found(held.bits()),
     }
+}
+
+pub fn refused<F: BlockFault>(fault: &RegisterFault<F>) -> Reply
+    ensures { result ≡ Refused (told F.BlockFault fault.now).number }
+{
+    Reply::Refused(fault.number())
 }
 
 // An open batch, with the token that its end spends.
@@ -99,16 +107,14 @@ impl Desk {
     // whose count is printed. Gives the batch, or the closed register where none could be begun, and the line to print.
     pub fn seal<S: Store>(&mut self, batch: Batch<S>) -> (Result<Batch<S>, Closed<S>>, Reply) {
         let Batch { open, token } = batch;
+        // Matches, here and in `begin`, since the batch or the closed register goes into either answer.
         let count = match list::<S, StaffNumber, Papers>(&open, &self.cells, &mut self.scratch) {
             Ok(count) => count,
-            Err(fault) => return (Ok(Batch { open, token }), Reply::Refused(fault.number())),
+            Err(fault) => return (Ok(Batch { open, token }), refused(&fault)),
         };
         match seal::<S, StaffNumber, Papers>(open, token, &mut self.cells, &mut self.work) {
             Ok(closed) => self.begin(closed, Reply::Sealed(count)),
-            Err((open, token, fault)) => (
-                Ok(Batch { open, token }),
-                Reply::Refused(fault.number()),
-            ),
+            Err((open, token, fault)) => (Ok(Batch { open, token }), refused(&fault)),
         }
     }
 
@@ -120,7 +126,7 @@ impl Desk {
     ) -> (Result<Batch<S>, Closed<S>>, Reply) {
         match begin::<S, StaffNumber, Papers>(closed, &mut self.cells, &mut self.work) {
             Ok((open, token)) => (Ok(Batch { open, token }), reply),
-            Err((closed, fault)) => (Err(closed), Reply::Refused(fault.number())),
+            Err((closed, fault)) => (Err(closed), refused(&fault)),
         }
     }
 

@@ -6,7 +6,7 @@ ghost use Rattle.std.specs.Prelude.{◌<◌, length, IfOk, IsTrue};
 
 mod desk;
 
-use desk::{Batch, Desk, command_of, reply_of};
+use desk::{Batch, Desk, command_of, refused, reply_of};
 use lines::input::{Lines, parse};
 use lines::output::Reply;
 use maps::{Answer, Command};
@@ -49,7 +49,7 @@ fn answer_sheet<S: Store>(
     for answer in &answers {
         let reply = match &entered {
             Ok(()) => reply_of(*answer),
-            Err(fault) => Reply::Refused(fault.number()),
+            Err(fault) => refused(fault),
         };
         print_reply(rt, reply)?;
     }
@@ -57,7 +57,8 @@ fn answer_sheet<S: Store>(
     Ok(())
 }
 
-// Answers all lines before the next seal, and tells whether one came.
+// Answers all lines before the next seal, and tells whether one came. A bool, since nothing comes with a seal, and what is
+// left of the lines is the caller's.
 fn answer_batch<S: Store>(
     rt: &HostRuntime,
     desk: &mut Desk,
@@ -121,7 +122,7 @@ fn serve<S: Store + Drop>(
 ) -> anyhow::Result<()> {
     let (closed, result) = match desk.start(closed) {
         Ok(batch) => answer_all(rt, desk, batch, input),
-        Err((closed, fault)) => (closed, print_reply(rt, Reply::Refused(fault.number()))),
+        Err((closed, fault)) => (closed, print_reply(rt, refused(&fault))),
     };
     let _ = closed.into_store();
     result

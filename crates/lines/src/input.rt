@@ -72,6 +72,7 @@ impl<'a> Iterator for Lines<'a> {
 fn read_number(digits: &[u8], limit: u64) -> Result<u64, BadLine>
     ensures { result ≡ or_bad (number_in limit digits.now) }
 {
+    // This test and the next have no value in them that an `Option` could hold for `?`.
     if digits.is_empty() || digits.len() > 10 {
         return Err(BadLine);
     }

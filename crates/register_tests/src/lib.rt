@@ -1,4 +1,4 @@
-// The register on examples: staff numbers, papers, plain stores.
+// The register on examples: staff numbers, papers, plain stores. Refusals are told by their numbers, as callers outside tell them.
 #![tactic(auto)]
 
 #[cfg(test)]

@@ -33,6 +33,12 @@ impl<'a, K: Key, V: Value> Stored<'a, K, V> {
         Stored { cells, seed, count }
     }
 
+    pub fn count(&self) -> usize
+        ensures { result ≡ self.now.count }
+    {
+        self.count
+    }
+
     // Where the record of a key stands, with the record.
     pub fn find(&self, key: K) -> Option<(usize, Record<K::Row, V>)>
         ensures { Finds (kinds_of K.Key.kind V.Value.kind) (take (capacity self.now.count) self.now.cells.now) key result }

@@ -1,33 +1,18 @@
 // Start and begin.
 ghost use Rattle.std.specs.Prelude.{◌≡◌, ℕ};
-ghost use Rattle.contents.specs.Faults.{told_if};
 ghost use Rattle.contents.specs.Setups.{setup};
-ghost use Rattle.model.specs.Refusals.{start_refusal};
 ghost use Rattle.model.specs.Steps.{Step};
 ghost use Rattle.model.specs.Worlds.{Call, no_piece, work_piece};
 ghost use Rattle.register.specs.Worlds.{closed_world, opening_event};
 
 use super::{Closed, Opening};
 use contents::fault::RegisterFault;
-use contents::find::find_contents;
+use contents::find::{check_room, find_contents};
 use kinds::key::Key;
 use kinds::record::Record;
 use kinds::value::Value;
 use store::fault::BlockFault;
 use store::store::Store;
-
-// Sees to the size of the store, then to the number of cells. Begin looks at other lengths, in `check_lengths` of contents.
-fn check_start<F: BlockFault>(blocks: usize, room: usize) -> Result<(), RegisterFault<F>>
-    ensures { told_if F.BlockFault result ≡ start_refusal blocks room }
-{
-    if blocks == 0 || blocks > 2048 {
-        return Err(RegisterFault::Size);
-    }
-    if room != 1024 {
-        return Err(RegisterFault::Lent);
-    }
-    Ok(())
-}
 
 // Opens a batch with no records under the seed. The cells are emptied.
 pub fn start<S: Store, K: Key, V: Value>(
@@ -37,7 +22,7 @@ pub fn start<S: Store, K: Key, V: Value>(
 ) -> Opening<S>
     ensures { Step (setup K.Key.kind V.Value.kind) (closed_world S.Store closed cells.old) (opening_event (Call.start seed) no_piece S.Fault.BlockFault S.Store result cells.new no_piece) }
 {
-    if let Err(fault) = check_start(closed.store.count(), cells.len()) {
+    if let Err(fault) = check_room(closed.store.count(), cells.len()) {
         return Err((closed, fault));
     }
     cells.fill(None);

@@ -1,4 +1,5 @@
-use Rattle.std.proofs.Common.{◌≡◌, length, replicate, None, Ok, Err, ap, ◌∙◌}
+use Rattle.std.proofs.Common.{◌≡◌, length, replicate, None, Ok, Err, ap, ◌∙◌, subst}
+use Rattle.compare.specs.Compare.{Compares}
 use Rattle.contents.specs.Faults.{told}
 use Rattle.contents.specs.Setups.{setup, meaning}
 use Rattle.contents.proofs.Found.{none_cloned}
@@ -8,19 +9,17 @@ use Rattle.audit.specs.declared.fault.AuditFault.TheVariants.{First, Second}
 use Rattle.audit.proofs.Pairs.{stored, first_refused, second_refused, both_read, yes_exactly, equal_images}
 use Rattle.audit.proofs.two.audit_two.Goals as goal
 
+pub new-other-requires : goal.new-other-requires
+new-other-requires g c =
+    ∣ stored (setup g.K.Key.kind g.V.Value.kind) (meaning g.T.Store c.args.second.now) c.args.second_cells.now c.examine.new.work
+    (c.in-Ok-examine.other_count, c.in-Ok-examine.other_seed) c.examine-2.new.cells c.examine-2.new.work c.in-Ok-examine.ensures ∣₁
+
 pub same_map-same-requires : goal.same_map-same-requires
-same_map-same-requires g c =
-    let x = setup g.K.Key.kind g.V.Value.kind in
-    let s = meaning g.S.Store c.args.first.now in
-    let t = meaning g.T.Store c.args.second.now in
-    record {
-      held = (
-        c.in-Ok.found.1,
-        stored x s c.args.first_cells.now c.args.work.now c.in-Ok.found c.examine.new.cells c.examine.new.work c.in-Ok.ensures,
-      );
-      other_held = stored x t c.args.second_cells.now c.examine.new.work (c.in-Ok-examine.other_count, c.in-Ok-examine.other_seed)
-          c.examine-2.new.cells c.examine-2.new.work c.in-Ok-examine.ensures;
-    }
+same_map-same-requires g c = (
+  c.in-Ok.found.1,
+  stored (setup g.K.Key.kind g.V.Value.kind) (meaning g.S.Store c.args.first.now) c.args.first_cells.now c.args.work.now c.in-Ok.found
+      c.examine.new.cells c.examine.new.work c.in-Ok.ensures,
+)
 
 pub returns-in-Err : goal.returns-in-Err
 returns-in-Err g c =
@@ -78,7 +77,8 @@ returns-in-Ok-examine g c =
     let both = both_read x s t cells other work c.in-Ok.found c.examine.new.cells c.fill.new.self c.examine.new.work c.in-Ok.ensures
     (empty ∙ ap (λ n. replicate n None) c.examine.auto.cells) w (c.in-Ok-examine.other_count, c.in-Ok-examine.other_seed)
     c.examine-2.new.cells c.fill-in-Ok-examine.new.self c.examine-2.new.work c.in-Ok-examine.ensures
-    (other_empty ∙ ap (λ n. replicate n None) c.examine-2.auto.cells) c.same_map-same.result c.same_map-same.ensures in
+    (other_empty ∙ ap (λ n. replicate n None) c.examine-2.auto.cells) c.same_map-same.result
+    (subst (λ cs. Compares x.kinds c.examine.new.cells cs c.same_map-same.result) c.new-other.ensures.cells c.same_map-same.ensures) in
     record {
       audits = both;
       yes = yes_exactly x s t cells other work w r both;
