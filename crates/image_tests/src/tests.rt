@@ -28,7 +28,7 @@ fn example() -> [u8; 64] {
     bytes
 }
 
-// Number and place of the refusal, if there is one.
+// Number and place of the refusal, if there is one. Refusals are told by their numbers, as callers outside tell them.
 fn refusal(bytes: &[u8]) -> Option<(u8, usize)> {
     let mut cells: Cells = [None; 1024];
     read_image::<StaffNumber, Papers, StoreFault>(bytes, &mut cells)
