@@ -18,7 +18,8 @@ use kinds::key::Key;
 use kinds::record::Record;
 use kinds::value::Value;
 
-// The rows of the cells are those of keys, so their places are those of the keys.
+// The rows of the cells are those of keys, so their places are those of the keys. That 1024 cells are the most is a
+// clause, since lent memory is a slice.
 fn check_layout<K: Key, V: Value, F>(
     cells: &[Option<Record<K::Row, V>>],
     seed: u32,

@@ -21,6 +21,7 @@ pub(crate) fn put_bits<T: Copy>(cells: &[Option<T>], out: &mut [u8])
     requires { length cells.now ≡ 8 * length out.old }
     ensures { out.new ≡ bit_map (held cells.now) (length out.old) }
 {
+    // The cells by index: of what a loop over `iter_mut().zip(..)` writes a proof learns nothing.
     for (j, byte) in out.iter_mut().enumerate() {
         *byte = bits_of(&cells[8 * j..8 * j + 8]);
     }
