@@ -3,7 +3,8 @@ ghost use Rattle.std.specs.Prelude.{◌≡◌, ◌*◌, length};
 ghost use Rattle.image.specs.Bits.{packed, bit_map};
 ghost use Rattle.image.specs.Image.{held};
 
-// The byte for eight cells, the lowest bit for the first.
+// The byte for eight cells, the lowest bit for the first. They are a slice: `as_chunks` asks that the size of eight fits
+// the memory, which is not known of any `T`.
 fn bits_of<T: Copy>(eight: &[Option<T>]) -> u8
     requires { length eight.now ≡ 8 }
     ensures { result ≡ packed (held eight.now) 0 8 }
