@@ -18,7 +18,8 @@ use kinds::key::Key;
 use kinds::record::Record;
 use kinds::value::Value;
 
-// The rows of the cells are those of keys, so their places are those of the keys.
+// The rows of the cells are those of keys, so their places are those of the keys. That 1024 cells are the most is a
+// clause, since lent memory is a slice.
 fn check_layout<K: Key, V: Value, F>(
     cells: &[Option<Record<K::Row, V>>],
     seed: u32,
@@ -26,6 +27,7 @@ fn check_layout<K: Key, V: Value, F>(
     requires { length cells.now ≤ 1024 }
     ensures { result ≡ unless Layout (first_out (row_rule (kinds_of K.Key.kind V.Value.kind) seed (length cells.now)) cells.now) }
 {
+    // A match: `map_or` would ask of callers that a fault can be dropped.
     match first_out_of_place::<K, V>(cells, seed) {
         Some(i) => Err(ImageFault::Layout(i)),
         None => Ok(()),
@@ -35,13 +37,14 @@ fn check_layout<K: Key, V: Value, F>(
 fn check_tail<F>(bytes: &[u8], end: usize) -> Result<(), ImageFault<F>>
     ensures { result ≡ tail_check bytes.now end }
 {
+    // A match: `map_or` would ask of callers that a fault can be dropped.
     match bytes.iter().skip(end).position(|&byte| byte != 0) {
         Some(i) => Err(ImageFault::Tail(end + i)),
         None => Ok(()),
     }
 }
 
-// A refusal leaves any cells.
+// A refusal leaves any cells. Seed and count are a pair, since each caller takes it apart at once.
 fn scan<K: Key, V: Value, F>(
     bytes: &[u8],
     cells: &mut [Option<Record<K::Row, V>>],

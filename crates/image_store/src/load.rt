@@ -18,7 +18,7 @@ fn load<S: Store>(store: &S, work: &mut [u8]) -> Result<(), ImageFault<S::Fault>
     ensures answer { tells S.Fault.BlockFault result ≡ load_answer (S.Store.shown store.now) }
     ensures bytes { Loaded (S.Store.shown store.now) (S.Store.count store.now) work.new result }
 {
-    // A store is asked for a block by its number, so the numbers are counted.
+    // The numbers are counted: of bytes that are written through `chunks_mut` nothing is known afterwards.
     for i in 0..store.count() {
         overwrite(work, 32 * i, &store.read(i)?);
     }
@@ -27,7 +27,7 @@ fn load<S: Store>(store: &S, work: &mut [u8]) -> Result<(), ImageFault<S::Fault>
 
 // Reads the image that the store shows, through the work bytes, which end zero on each way out. A caller sees to it that they have room for every
 // block, and that 1024 cells are lent: lent memory is a slice, as a rule of the project asks. Refused with the lowest unreadable block, else as
-// `read_image` refuses.
+// `read_image` refuses. Each caller takes the pair apart at once.
 pub fn read_store<S: Store, K: Key, V: Value>(
     store: &S,
     work: &mut [u8],

@@ -36,24 +36,30 @@ fn owners() -> [Option<u16>; 1024] {
     owner
 }
 
+// The code of text number `i` with `i` quarter hours in week 9.
+fn code_of(i: u16) -> [u8; 29] {
+    let mut code = [0; 29];
+    code[0] = 24;
+    code[1..25].copy_from_slice(&text_of(i));
+    code[26] = 9;
+    code[27..].copy_from_slice(&i.to_be_bytes());
+    code
+}
+
 // The image of all 768 texts, text number `i` with `i` quarter hours in week 9, in 704 blocks.
 fn image() -> [u8; 22528] {
     let mut bytes = [0; 22528];
     bytes[..6].copy_from_slice(&[1, 2, 2, 10, 3, 0]);
     bytes[11] = 5;
-    let mut k = 0;
-    for (c, owner) in owners().iter().enumerate() {
-        if let Some(i) = *owner
-            && k < 768
-        {
+    let owners = owners();
+    for (c, owner) in owners.iter().enumerate() {
+        if owner.is_some() {
             bytes[32 + c / 8] |= 1 << (c % 8);
-            let code = &mut bytes[160 + 29 * k..189 + 29 * k];
-            code[0] = 24;
-            code[1..25].copy_from_slice(&text_of(i));
-            code[26] = 9;
-            code[27..].copy_from_slice(&i.to_be_bytes());
-            k += 1;
         }
+    }
+    let (codes, _) = bytes[160..].as_chunks_mut::<29>();
+    for (code, i) in codes.iter_mut().zip(owners.iter().flatten()) {
+        *code = code_of(*i);
     }
     bytes
 }

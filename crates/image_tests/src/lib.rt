@@ -17,6 +17,7 @@ mod largest;
 mod tests;
 
 // Reads an image and writes it again: what is accepted comes out byte for byte. A caller lends 1024 cells, and as many bytes as it gives.
+// Lent memory is a slice, as a rule of the project asks, so clauses and not types tell its lengths.
 pub fn copy_image<K: Key, V: Value, F>(
     bytes: &[u8],
     cells: &mut [Option<Record<K::Row, V>>],

@@ -28,7 +28,7 @@ fn example() -> [u8; 64] {
     bytes
 }
 
-// Number and place of the refusal, if there is one.
+// Number and place of the refusal, if there is one. Refusals are told by their numbers, as callers outside tell them.
 fn refusal(bytes: &[u8]) -> Option<(u8, usize)> {
     let mut cells: Cells = [None; 1024];
     read_image::<StaffNumber, Papers, StoreFault>(bytes, &mut cells)
@@ -112,8 +112,15 @@ fn layout_and_tail_faults(rt: HostRuntime) {
     assert_eq!(rt; spoilt(63, 1), Some((8, 63)));
 }
 
-// Number and place of the refusal of a checked store of two blocks, one byte of which is changed, where it has so many; and whether the work bytes end zero.
-fn checked_refusal(i: usize) -> (Option<(u8, usize)>, bool) {
+// What comes of reading a checked store of two blocks, one byte of which is changed, where it has so many.
+#[derive(Drop)]
+struct CheckedRead {
+    // Number and place of the refusal.
+    refusal: Option<(u8, usize)>,
+    work: [u8; 70],
+}
+
+fn checked_read(i: usize) -> Option<CheckedRead> {
     let mut bytes = [0; 68];
     if let Some(byte) = bytes.get_mut(i) {
         *byte = 1;
@@ -122,20 +129,29 @@ fn checked_refusal(i: usize) -> (Option<(u8, usize)>, bool) {
     let mut cells: Cells = [None; 1024];
     let mut work = [9; 70];
     if 32 * store.count() > work.len() {
-        return (None, false);
+        return None;
     }
-    let answer = read_store::<CheckedStore<'_>, StaffNumber, Papers>(&store, &mut work, &mut cells)
+    let refusal = read_store::<CheckedStore<'_>, StaffNumber, Papers>(&store, &mut work, &mut cells)
         .err()
         .map(|fault| (fault.number(), fault.place()));
-    (answer, work[0] == 0 && work[33] == 0 && work[69] == 0)
+    Some(CheckedRead { refusal, work })
+}
+
+fn checked_refusal(i: usize) -> Option<(u8, usize)> {
+    checked_read(i)?.refusal
+}
+
+// Whether the work bytes end zero.
+fn ends_zero(i: usize) -> bool {
+    checked_read(i).is_some_and(|read| read.work == [0; 70])
 }
 
 #[test]
 fn unreadable_blocks(rt: HostRuntime) {
-    assert_eq!(rt; checked_refusal(32).0, Some((3, 0)));
-    assert_eq!(rt; checked_refusal(66).0, Some((3, 1)));
-    assert_eq!(rt; checked_refusal(34).0, Some((3, 1)));
-    assert!(rt; checked_refusal(66).1);
-    assert!(rt; checked_refusal(68).1);
-    assert_eq!(rt; checked_refusal(68).0, Some((4, 0)));
+    assert_eq!(rt; checked_refusal(32), Some((3, 0)));
+    assert_eq!(rt; checked_refusal(66), Some((3, 1)));
+    assert_eq!(rt; checked_refusal(34), Some((3, 1)));
+    assert!(rt; ends_zero(66));
+    assert!(rt; ends_zero(68));
+    assert_eq!(rt; checked_refusal(68), Some((4, 0)));
 }

@@ -35,6 +35,8 @@ pub(crate) fn put_codes<K: Key, V: Value>(
     }
 }
 
+// It walks as `put_codes` does, but has no bytes to write to: a walk for both would take a closure, and be no shorter.
+// That 1024 cells are the most is a clause, since lent memory is a slice.
 pub(crate) fn codes_len<K: Key, V: Value>(cells: &[Option<Record<K::Row, V>>]) -> usize
     requires { length cells.now ≤ 1024 }
     ensures size { result ≡ length (codes_in (code_of (kinds_of K.Key.kind V.Value.kind)) (keyed_cells (kinds_of K.Key.kind V.Value.kind) cells.now)) }

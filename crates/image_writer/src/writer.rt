@@ -25,6 +25,7 @@ fn put_header<K: Key, V: Value>(power: u8, count: u16, seed: u32, out: &mut [u8]
 }
 
 // The length of the image, up to its last record, of the map of `count` records whose layout the cells are, whatever its seed.
+// Lent memory is a slice, as a rule of the project asks, so a clause and not a type tells its length.
 pub fn image_len<K: Key, V: Value>(cells: &[Option<Record<K::Row, V>>], count: usize) -> usize
     requires { length cells.now ≤ 1024 }
     ensures { LongAs (kinds_of K.Key.kind V.Value.kind) count cells.now result }

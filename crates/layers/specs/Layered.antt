@@ -9,13 +9,13 @@ use Rattle.layers.specs.declared.offset.Offset.{Offset}
 -- an offset layer, by the members of the store below
 module _ {S F : Type 0} (below : Ghosts S F) (o : Offset S) where
   abbrev pub window_count : ℕ
-  window_count = offset_count o.first o.wished (below.count o.below)
+  window_count = offset_count o.window.first o.window.wished (below.count o.below)
 
   abbrev pub window_shown : List Place
-  window_shown = offset_places o.first o.wished (below.count o.below) (below.shown o.below)
+  window_shown = offset_places o.window.first o.window.wished (below.count o.below) (below.shown o.below)
 
   abbrev pub window_kept : List Place
-  window_kept = offset_places o.first o.wished (below.count o.below) (below.kept o.below)
+  window_kept = offset_places o.window.first o.window.wished (below.count o.below) (below.kept o.below)
 
 -- a mirror, by the members of its halves
 module _ {L R F G : Type 0} (l : Ghosts L F) (r : Ghosts R G) (m : Mirror L R) where

@@ -14,7 +14,8 @@ pub fn readable(i: usize, count: usize) -> Result<(), StoreFault>
     Ok(())
 }
 
-// What every store answers to a write of block `i`, from its count and whether it is protected.
+// What every store answers to a write of block `i`, from its count and whether it is protected. A store calls it with
+// what it has at hand: a struct of the three would be taken apart at once.
 pub fn writable(i: usize, count: usize, protected: bool) -> Result<(), StoreFault>
     ensures { tells ⟦<StoreFault as BlockFault>⟧ result ≡ write_answer count protected i }
 {

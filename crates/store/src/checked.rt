@@ -9,6 +9,7 @@ use crate::lent::LentStore;
 use crate::store::Block;
 
 // A block with its two Fletcher sums behind it, and right if they are its own.
+#[derive(Clone, Copy, Debug, PartialEq, Eq)]
 pub struct Checked;
 
 // Blocks in lent bytes, each with its sums behind it.

@@ -9,7 +9,7 @@ use crate::store::{Block, Store};
 use std::marker::PhantomData;
 
 // Blocks that lie one behind the other in lent bytes, each in a part that `F` makes. What it shows it keeps at once. Lent
-// memory is a slice: a rule of the project.
+// memory is a slice, and protected or not is a yes or no that a store shows: rules of the project.
 #[derive(Drop)]
 pub struct LentStore<'a, F> {
     bytes: &'a mut [u8],

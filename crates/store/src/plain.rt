@@ -7,6 +7,7 @@ use crate::lent::LentStore;
 use crate::store::Block;
 
 // A block by itself, which is always right.
+#[derive(Clone, Copy, Debug, PartialEq, Eq)]
 pub struct Plain;
 
 // Blocks that lie one behind the other in lent bytes.

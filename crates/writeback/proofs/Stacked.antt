@@ -8,9 +8,9 @@ use Rattle.writeback.specs.Overlays.{overlay}
 use Rattle.writeback.specs.Stacks.{Stacked, stack_count, stack_protected, stack_shown, stack_kept}
 
 pub stack_keeps : (s : Stacked) (first wished : ℕ) (plain checked : List ℕ)
-    → s.below.left.first ≡ first → s.below.left.wished ≡ wished → s.below.left.below.bytes.now ≡ plain → s.below.right.bytes.now ≡ checked
+    → s.below.left.window ≡ record { first = first; wished = wished } → s.below.left.below.bytes.now ≡ plain → s.below.right.bytes.now ≡ checked
     → stack_kept s ≡ mirror_places (offset_count first wished (plain_count plain)) (checked_count checked) (offset_places first wished (plain_count plain) (plain_places plain)) (checked_places checked)
-stack_keeps s first wished plain checked e-first e-wished e-plain e-checked = rw (e-first, e-wished, e-plain, e-checked)
+stack_keeps s first wished plain checked e-window e-plain e-checked = rw (e-window, e-plain, e-checked)
 
 pub stack_same : (s : Stacked) → held_list s.held ≡ [] → stack_shown s ≡ stack_kept s
 stack_same s e = ap (overlay (stack_count s) (stack_protected s) (stack_kept s)) e

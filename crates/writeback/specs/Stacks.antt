@@ -18,10 +18,10 @@ abbrev pub Stacked : Type 0
 Stacked = WriteBack (Mirror (Offset (LentStore Plain)) (LentStore Checked))
 
 abbrev left_count : Offset (LentStore Plain) → ℕ
-left_count o = offset_count o.first o.wished (plain_count o.below.bytes.now)
+left_count o = offset_count o.window.first o.window.wished (plain_count o.below.bytes.now)
 
 abbrev left_places : Offset (LentStore Plain) → List Place
-left_places o = offset_places o.first o.wished (plain_count o.below.bytes.now) (plain_places o.below.bytes.now)
+left_places o = offset_places o.window.first o.window.wished (plain_count o.below.bytes.now) (plain_places o.below.bytes.now)
 
 abbrev pub stack_count : Stacked → ℕ
 stack_count s = min (left_count s.below.left) (checked_count s.below.right.bytes.now)

@@ -46,6 +46,7 @@ impl<S: Store> WriteBack<S> {
         requires { i < S.Store.count self.now.below }
         ensures { tells ⟦<StoreFault as BlockFault>⟧ result ≡ read_told ⟦<WriteBack<S> as Store>⟧ self.now i }
     {
+        // A match: in `map_or_else` the read's `map_err` is a closure within a closure, which is no plainer.
         match self.held_block(i) {
             Some(block) => Ok(block),
             None => self.below.read(i).map_err(|_| StoreFault::Unreadable(i)),

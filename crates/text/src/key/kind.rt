@@ -60,6 +60,7 @@ impl Key for TextKey {
     }
 
     fn from_row(plain: TextRow) -> Option<TextKey> {
+        // The key's invariant is shown within the branch.
         if row_is_kept(plain) {
             Some(TextKey { row: plain })
         } else {
