@@ -1,4 +1,5 @@
-// Which cells are not in place, whatever rows they hold. A caller has at most 1024 cells.
+// Which cells are not in place, whatever rows they hold. A caller has at most 1024 cells: a clause says so, since lent memory is a
+// slice, a rule of the project.
 ghost use Rattle.std.specs.Prelude.{◌≡◌, ◌<◌, ◌≤◌, length};
 ghost use Rattle.cells.specs.Rows.{row_rule};
 ghost use Rattle.layout.specs.Places.{barred, first_out, out_of_place};

@@ -19,7 +19,7 @@ pub fn capacity_of(count: usize) -> usize
     1 << power_of(count)
 }
 
-// The home of a hash. Its callers have at most 1024 cells.
+// The home of a hash. Its callers have at most 1024 cells: a clause says so, since lent memory is a slice, a rule of the project.
 pub fn home_of(cells: usize, hash: u32) -> usize
     requires { cells ≤ 1024 }
     ensures { result ≡ home_at cells hash }

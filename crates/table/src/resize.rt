@@ -19,7 +19,7 @@ pub struct Scratch<'a, R: Copy> {
 }
 
 impl<'a, R: Copy> Scratch<'a, R> {
-    // Empties the cells.
+    // Empties the cells. Their number stands in a clause, since lent memory is a slice: a rule of the project.
     pub fn new(cells: &'a mut [Option<R>]) -> Self
         requires { length cells.old ≡ 1024 }
         ensures { result.cells.ghost_name ≡ cells.entry.ghost_name }
