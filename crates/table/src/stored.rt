@@ -36,7 +36,7 @@ impl<'a, K: Key, V: Value> Stored<'a, K, V> {
     pub fn count(&self) -> usize
         ensures { result ≡ self.now.count }
     {
-        self.count // of records
+        self.count
     }
 
     // Where the record of a key stands, with the record.
