@@ -24,7 +24,7 @@ pub fn audit_two<S: Store, T: Store, K: Key, V: Value>(
     ensures yes { YesExactly (setup K.Key.kind V.Value.kind) (meaning S.Store first.now) (meaning T.Store second.now) first_cells.old second_cells.old work.old (answered_two S.Fault.BlockFault T.Fault.BlockFault result) }
     ensures equal { EqualImages (setup K.Key.kind V.Value.kind) (meaning S.Store first.now) (meaning T.Store second.now) first_cells.old second_cells.old work.old (answered_two S.Fault.BlockFault T.Fault.BlockFault result) }
 {
-    // a match, since the borrow checker takes no `map_err` to a type with a parameter more, as `First` makes it
+    // A match: `map_err` was tried, and the borrow checker takes none to a type with a parameter more, as `First` makes it
     let (count, _) = match examine::<S, K, V>(first, first_cells, work) {
         Ok(found) => found,
         Err(fault) => return Err(AuditFault::First(fault)),

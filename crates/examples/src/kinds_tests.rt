@@ -8,6 +8,7 @@ use numbers::staff::StaffNumber;
 use std::cmp::Ordering;
 use std::test::Fail;
 
+// Worked out again, apart from the code under test.
 fn home(number: u32, seed: u32) -> u64 {
     u64::from(StaffNumber::new(number).hash(seed)) * 8 / 0x1_0000_0000
 }

@@ -58,7 +58,7 @@ fn is_broken<K: Key, V: Value>(bytes: &[u8], i: usize) -> bool
 pub(crate) fn check_header<K: Key, V: Value, F>(bytes: &[u8]) -> Result<(), ImageFault<F>>
     ensures { result ≡ header_check (kinds_of K.Key.kind V.Value.kind) bytes.now }
 {
-    // A match: `map_or` would ask of callers that a fault can be dropped.
+    // A match: `map_or` would ask of callers that a fault can be dropped, and `map_or_else` takes two closures for two arms.
     match (0..32).find(|&i| is_broken::<K, V>(bytes, i)) {
         Some(i) => Err(ImageFault::Header(i)),
         None => Ok(()),

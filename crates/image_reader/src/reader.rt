@@ -27,7 +27,7 @@ fn check_layout<K: Key, V: Value, F>(
     requires { length cells.now ≤ 1024 }
     ensures { result ≡ unless Layout (first_out (row_rule (kinds_of K.Key.kind V.Value.kind) seed (length cells.now)) cells.now) }
 {
-    // A match: `map_or` would ask of callers that a fault can be dropped.
+    // A match: `map_or` would ask of callers that a fault can be dropped, and `map_or_else` takes two closures for two arms.
     match first_out_of_place::<K, V>(cells, seed) {
         Some(i) => Err(ImageFault::Layout(i)),
         None => Ok(()),
@@ -37,7 +37,7 @@ fn check_layout<K: Key, V: Value, F>(
 fn check_tail<F>(bytes: &[u8], end: usize) -> Result<(), ImageFault<F>>
     ensures { result ≡ tail_check bytes.now end }
 {
-    // A match: `map_or` would ask of callers that a fault can be dropped.
+    // A match: `map_or` would ask of callers that a fault can be dropped, and `map_or_else` takes two closures for two arms.
     match bytes.iter().skip(end).position(|&byte| byte != 0) {
         Some(i) => Err(ImageFault::Tail(end + i)),
         None => Ok(()),

@@ -12,7 +12,8 @@ use kinds::value::Value;
 use store::store::Store;
 
 // Writes the image of what the cells hold into every block of the store, and flushes it. It goes through the work bytes, which end zero.
-// A caller sees to it that the store is not protected, that the work bytes suffice, and that the image fits.
+// A caller sees to it that the store is not protected, that the work bytes suffice, and that the image fits: lent memory is a
+// slice, as a rule of the project asks, so clauses tell its length.
 pub fn save_image<S: Store, K: Key, V: Value>(
     store: &mut S,
     cells: &[Option<Record<K::Row, V>>],

@@ -14,7 +14,7 @@ pub struct Window {
     wished: usize,
 }
 
-// The blocks of the store below that lie in a window.
+// The blocks of the store below that lie in a window. That a call leaves the window as it was is a clause of each, since the trait knows no window.
 #[derive(Drop)]
 pub struct Offset<S> {
     below: S,

@@ -33,6 +33,7 @@ pub fn split_line(bytes: &[u8]) -> Option<(&[u8], &[u8])>
     if bytes.is_empty() {
         return None;
     }
+    // A match: in a `map_or` the second arm would stand before the first.
     match position(bytes, b'\n') {
         Some(i) => Some((&bytes[..i], &bytes[i + 1..])),
         None => Some((bytes, &[])),

@@ -101,6 +101,7 @@ fn run_all<K: Key, V: Value>(
     ensures cells_named { table.new.cells.ghost_name ≡ table.old.cells.ghost_name }
     ensures scratch_named { scratch.new.cells.ghost_name ≡ scratch.old.cells.ghost_name }
 {
+    // By index: of what is written through `zip` and `iter_mut`, a proof knows nothing afterwards.
     for (i, command) in sheet.iter().enumerate() {
         write_answer(answers, i, table.run(scratch, *command));
     }

@@ -18,7 +18,8 @@ use maps::{Answer, Command};
 // A map has at most so many records.
 pub const MOST_RECORDS: usize = 768;
 
-// Cells that hold a map of `count` records under a seed, lent to be written.
+// Cells that hold a map of `count` records under a seed, lent to be written. That a method stays on its cells, under its
+// seed, and on its scratch is a clause of each: by it a lender knows its memory again, and no type can say it.
 #[derive(Drop)]
 pub struct Table<'a, K: Key, V: Value> {
     cells: &'a mut [Option<Record<K::Row, V>>],

@@ -47,7 +47,8 @@ pub fn resize<K: Key, V: Value>(
     scratch.fill(None);
 }
 
-// The same where another number of cells is wanted; else nothing.
+// `resize` where another number of cells is wanted; else nothing. So its clauses stand again: with the look in `resize`
+// itself, `add` and `take_out` would not write the cells in a straight line, as the proof of their types wants it.
 pub(crate) fn fit<K: Key, V: Value>(
     cells: &mut [Option<Record<K::Row, V>>],
     scratch: &mut [Option<Record<K::Row, V>>],

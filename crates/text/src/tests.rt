@@ -5,7 +5,7 @@ use kinds::key::Key;
 use std::cmp::Ordering;
 use std::test::Fail;
 
-// Number and place of the refusal, if there is one.
+// Number and place of the refusal, if there is one, as callers outside tell it.
 fn refusal(bytes: &[u8]) -> Option<(u8, usize)> {
     TextKey::new(bytes)
         .err()

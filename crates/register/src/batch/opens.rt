@@ -22,6 +22,7 @@ pub fn start<S: Store, K: Key, V: Value>(
 ) -> Opening<S>
     ensures { Step (setup K.Key.kind V.Value.kind) (closed_world S.Store closed cells.old) (opening_event (Call.start seed) no_piece S.Fault.BlockFault S.Store result cells.new no_piece) }
 {
+    // Not `?`, here and in `seal`: what the call used up goes back with the fault.
     if let Err(fault) = check_room(closed.store.count(), cells.len()) {
         return Err((closed, fault));
     }
