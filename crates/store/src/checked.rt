@@ -15,7 +15,7 @@ pub struct Checked;
 // Blocks in lent bytes, each with its sums behind it.
 pub type CheckedStore<'a> = LentStore<'a, Checked>;
 
-// Both sums, once one byte more has gone in. In 32 bits: in 16 a write took up to twice as long, by where the loop lay.
+// Both sums, once one byte more has gone in. In 32 bits, since with 16 a write took up to twice as long.
 fn with_byte(s1: u32, s2: u32, x: u8) -> (u32, u32)
     requires { (s1 < 255) × (s2 < 255) }
     ensures { result ≡ sums_more s1 s2 x }
