@@ -1,4 +1,5 @@
 // Numbers of cells: how many a count demands, and the way round them, where cell 0 follows the last.
+// Public for the crates above, which show what `home_of`, `step` and `distance` ask.
 ghost use Rattle.std.specs.Prelude.{◌≡◌, ◌<◌, ◌≤◌};
 ghost use Rattle.layout.specs.Capacity.{capacity, home_at, power};
 ghost use Rattle.layout.specs.Cells.{next, distance as steps};

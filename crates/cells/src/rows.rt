@@ -18,7 +18,7 @@ pub fn is_before<K: Key>(a: Option<K>, b: Option<K>) -> bool
     }
 }
 
-// The home of a key among at most 1024 cells: a clause, as at `home_of`.
+// The home of a key among at most 1024 cells: a clause that its callers show, as at `home_of`.
 pub fn home<K: Key>(cells: usize, seed: u32, key: Option<K>) -> usize
     requires { cells ≤ 1024 }
     ensures { result ≡ home_at cells (hash_some (K.Key.kind.hash seed) key) }

@@ -40,9 +40,8 @@ fn all_keyed<K: Key, V: Value>(cells: &[Option<Record<K::Row, V>>]) -> bool
     cells.iter().all(|cell| is_keyed::<K, V>(cell))
 }
 
-// The same where the lengths and the count are right, as `is_layout` has shown: seed, count and size stand apart, since the size is by
-// now what the count demands. They stand in clauses, since lent memory is a slice:
-// a rule of the project.
+// The same where the lengths and the count are right, as `is_layout` has shown: seed, count and size stand apart,
+// since the size is by now what the count demands. They stand in clauses, since lent memory is a slice: a rule of the project.
 fn holds_layout<K: Key, V: Value>(
     cells: &[Option<Record<K::Row, V>>],
     seed: u32,

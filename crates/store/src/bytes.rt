@@ -3,7 +3,7 @@ ghost use Rattle.store.specs.Lent.{block_at, overwritten};
 
 use crate::store::Block;
 
-// The block that lies in bytes from a start on.
+// The block that lies in bytes from a start on. Public for the crates above: each caller shows that the bytes are there.
 pub fn block_at(bytes: &[u8], start: usize) -> Block
     requires { start + 32 ≤ length bytes.now }
     ensures { result ≡ block_at bytes.now start }
@@ -13,7 +13,7 @@ pub fn block_at(bytes: &[u8], start: usize) -> Block
     block
 }
 
-// Writes over bytes from a start on.
+// Writes over bytes from a start on, which each caller shows to be there, as for `block_at`.
 pub fn overwrite(bytes: &mut [u8], start: usize, new: &[u8])
     requires { start + length new.now ≤ length bytes.old }
     ensures { bytes.new ≡ overwritten bytes.old start new.now }

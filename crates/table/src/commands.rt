@@ -29,6 +29,7 @@ pub struct Table<'a, K: Key, V: Value> {
 }
 
 impl<'a, K: Key, V: Value> Table<'a, K, V> {
+    // Public for the crates above, which show that the cells hold such a map.
     pub fn new(cells: &'a mut [Option<Record<K::Row, V>>], seed: u32, count: usize) -> Self
         requires { ∥ Stores (kinds_of K.Key.kind V.Value.kind) seed count cells.old ∥₁ }
         ensures cells { result.cells.now ≡ cells.old }

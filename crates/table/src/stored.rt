@@ -24,6 +24,7 @@ pub struct Stored<'a, K: Key, V: Value> {
 }
 
 impl<'a, K: Key, V: Value> Stored<'a, K, V> {
+    // Public for the crates above, which show that the cells hold such a map.
     pub fn new(cells: &'a [Option<Record<K::Row, V>>], seed: u32, count: usize) -> Self
         requires { ∥ Stores (kinds_of K.Key.kind V.Value.kind) seed count cells.now ∥₁ }
         ensures cells { result.cells.now ≡ cells.now }
